@@ -1,0 +1,41 @@
+-- No two bars of the table have one number.
+use mathlib.Core.Path.{_≡_, refl, sym, ap, _∙_}
+use mathlib.Core.Bool.{cond}
+use native.Mathlib.Omega.{arith}
+use borrow.Author.Differences.{ints}
+use Prim.Native.Nat.{ℕ, zero, suc, _-_, _<_}
+use lib.Dec.{ltb}
+use lib.IntN.{ℤ}
+use Rattle.std.specs.Options.{Cases}
+use Rattle.std.specs.declared.option.Option.{Option}
+use Rattle.std.specs.declared.option.Option.the-variants.{Some, None}
+use Rattle.section.specs.Bars.{barAt, rows, Numbered}
+
+-- the position of a bar by its number: the numbers run from 3 to 11, then come 14 and 18
+abbrev positionOf : ℕ → ℕ
+positionOf n = cond (ltb n 12) (n - 3) (cond (ltb n 15) 9 10)
+
+position-of-number : (i : ℕ) → i < rows → positionOf (barAt i .number) ≡ i
+unfolding barAt
+position-of-number zero h = refl
+position-of-number (suc zero) h = refl
+position-of-number (suc (suc zero)) h = refl
+position-of-number (suc (suc (suc zero))) h = refl
+position-of-number (suc (suc (suc (suc zero)))) h = refl
+position-of-number (suc (suc (suc (suc (suc zero))))) h = refl
+position-of-number (suc (suc (suc (suc (suc (suc zero)))))) h = refl
+position-of-number (suc (suc (suc (suc (suc (suc (suc zero))))))) h = refl
+position-of-number (suc (suc (suc (suc (suc (suc (suc (suc zero)))))))) h = refl
+position-of-number (suc (suc (suc (suc (suc (suc (suc (suc (suc zero))))))))) h = refl
+position-of-number (suc (suc (suc (suc (suc (suc (suc (suc (suc (suc zero)))))))))) h = refl
+position-of-number (suc (suc (suc (suc (suc (suc (suc (suc (suc (suc (suc i))))))))))) h = absurd (omega arith)
+
+pub one-position : (z : ℤ) (i j : ℕ) → Numbered z i → Numbered z j → i ≡ j
+one-position z i j h g =
+    let e : barAt i .number ≡ barAt j .number = omega (arith, ints) in
+    sym (position-of-number i (h .0)) ∙ ap positionOf e ∙ position-of-number j (g .0)
+
+-- so a search that finds some position, or says that there is none, finds the one
+pub found-alone : (z : ℤ) (r : Option ℕ) → Cases r ((i : ℕ) → Numbered z i → ⊥) (λ i. Numbered z i) → (i : ℕ) → Numbered z i → r ≡ Some i
+found-alone z None h i n = absurd (h i n)
+found-alone z (Some j) h i n = ap Some (one-position z j i h n)
