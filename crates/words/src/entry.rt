@@ -1,3 +1,7 @@
+ghost use mathlib.Core.Path.{_≡_};
+ghost use Rattle.words.specs.Kinds.{kindOf};
+use crate::kind::Kind;
+
 // What one entry asks of a sheet. It may be formed with any numbers: strengths in psi, lengths in ticks (0.01 inch),
 // the axial load in pounds, the factored moment in kip-inches.
 #[derive(Clone, Copy, PartialEq, Eq, Debug)]
@@ -16,4 +20,20 @@ pub enum Entry {
     Moment { member: i64, mu: i64 },
     // asks for the moment bracket
     Solve,
+}
+
+impl Entry {
+    pub fn kind(&self) -> Kind
+        ensures { λ r. ⌜ r ≡ kindOf (now (self .entry)) ⌝ }
+    {
+        match *self {
+            Entry::Open { .. } => Kind::Open,
+            Entry::Lay { .. } => Kind::Lay,
+            Entry::Place { .. } => Kind::Place,
+            Entry::Lift { .. } => Kind::Lift,
+            Entry::Axial { .. } => Kind::Axial,
+            Entry::Moment { .. } => Kind::Moment,
+            Entry::Solve => Kind::Solve,
+        }
+    }
 }
