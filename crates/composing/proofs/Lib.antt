@@ -1,3 +1,4 @@
 pub mod Cuts
-pub mod Orders
+pub mod Progress
 pub mod Readings
+pub mod Spelt

@@ -1,3 +1,5 @@
+pub mod Asking
+pub mod Composing
 pub mod Figures
 pub mod Runs
 pub mod Spelling

@@ -7,7 +7,7 @@ ghost use Rattle.composing.specs.Figures.{Figures};
 use std::str::from_utf8;
 
 // The number that a piece writes in figures.
-pub fn number(piece: &[u8]) -> Option<i64>
+pub(crate) fn number(piece: &[u8]) -> Option<i64>
     ensures { λ r. ⌜ BySome r ((z : ℤ) → Figures (now (piece .entry)) z → ⊥) (λ z. Figures (now (piece .entry)) z) ⌝ }
 {
     let Ok(text) = from_utf8(piece) else {
@@ -17,7 +17,7 @@ pub fn number(piece: &[u8]) -> Option<i64>
 }
 
 // Whether every byte of a piece is a digit.
-pub fn all_digits(piece: &[u8]) -> bool
+pub(crate) fn all_digits(piece: &[u8]) -> bool
     ensures { λ r. ⌜ r ≡ allDigits (now (piece .entry)) ⌝ }
 {
     for byte in piece {

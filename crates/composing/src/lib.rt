@@ -1,4 +1,7 @@
 // The stream of entry words that lines of text ask for.
-pub mod figures;
-pub mod runs;
-pub mod spelling;
+pub mod compose;
+pub mod expected;
+mod figures;
+mod line;
+mod runs;
+mod spelling;

@@ -16,7 +16,7 @@ use words::entry::Entry;
 use words::kind::Kind;
 
 // The kind of entry with a name.
-fn kind_named(name: &[u8]) -> Option<Kind>
+pub(crate) fn kind_named(name: &[u8]) -> Option<Kind>
     ensures { λ r. ⌜ BySome r ((k : Kind) → now (name .entry) ≡ nameOf k → ⊥) (λ k. now (name .entry) ≡ nameOf k) ⌝ }
 {
     match name {
@@ -32,7 +32,7 @@ fn kind_named(name: &[u8]) -> Option<Kind>
 }
 
 // The entry of a kind whose numbers a line writes.
-fn entry_of(kind: Kind, line: &[u8]) -> Option<Entry>
+pub(crate) fn entry_of(kind: Kind, line: &[u8]) -> Option<Entry>
     ensures { λ r. ⌜ BySome r (NoNumbers kind (pieces (now (line .entry)))) (λ e. (kindOf e ≡ kind) × Numbers (numbersOf e) (pieces (now (line .entry)))) ⌝ }
 {
     match kind {

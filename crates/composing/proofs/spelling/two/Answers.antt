@@ -1,7 +1,7 @@
 -- Where no number comes first, or none alone after it, there are no two.
 use mathlib.Core.List.{[], _∷_}
 use Rattle.words.specs.Lines.{labelled}
-use Rattle.composing.proofs.Orders.{numbers-after}
+use Rattle.composing.proofs.Spelt.{numbers-after}
 use Rattle.composing.proofs.spelling.two.Needs as need
 
 pub returns-in-Break-x : need.returns-in-Break-x

@@ -1,0 +1,51 @@
+// The stream of words that a text asks for, line by line.
+ghost use mathlib.Core.Path.{_≡_};
+ghost use Rattle.std.specs.Of.Vec.{vec-items};
+ghost use Rattle.std.specs.Results.{Cases};
+ghost use Rattle.composing.specs.Composing.{Composed, Refused};
+ghost use Rattle.composing.specs.declared.compose.Failure.the-variants.{Memory};
+use crate::expected::Expected;
+use crate::expected::ExpectedDebug;
+use crate::expected::ExpectedPartialEq;
+use crate::line::word_of;
+use crate::runs::Separator;
+use crate::runs::first_run;
+use std::alloc::AllocError;
+use std::alloc::Global;
+use words::stream::put;
+
+// Why no stream was made of a text.
+#[derive(Clone, Copy, PartialEq, Debug)]
+pub enum Failure {
+    Memory,
+    // the first line that asks for no word and is not skipped; lines count from 1
+    Line { number: usize, expected: Expected },
+}
+
+pub impl From<AllocError> for Failure as FailureFromAlloc {
+    ghost converts = { λ _ r. r ≡ Memory };
+
+    fn from(_error: AllocError) -> Failure {
+        Failure::Memory
+    }
+}
+
+// The bytes of the words that the lines of a text ask for, in order.
+pub fn compose(heap: Global, text: &[u8]) -> Result<Vec<u8>, Failure>
+    ensures { λ r. ⌜ Cases r (λ v. Composed (now (text .entry)) (vec-items v)) (λ f. Refused (now (text .entry)) f) ⌝ }
+{
+    let mut bytes = Vec::new(heap);
+    let mut rest = text;
+    let mut number = 0;
+    while !rest.is_empty() {
+        let (line, more) = first_run(rest, Separator::LineFeed);
+        number += 1;
+        match word_of(line) {
+            Ok(Some(word)) => put(&mut bytes, word)?,
+            Ok(None) => {}
+            Err(expected) => return Err(Failure::Line { number, expected }),
+        }
+        rest = more;
+    }
+    Ok(bytes)
+}
