@@ -2,6 +2,7 @@
 pub mod entry;
 pub mod fault;
 pub mod kind;
+pub mod limits;
 pub mod shown;
 pub mod stream;
 pub mod word;

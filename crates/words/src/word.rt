@@ -4,10 +4,16 @@ ghost use Prim.Native.Nat.{ℕ, _<_};
 ghost use Rattle.words.specs.Words.{Read, Written, Field, Hundreds, Position, OneEntry, OneWord};
 use crate::entry::Entry;
 use crate::fault::Fault;
+use crate::limits::COUNTS;
+use crate::limits::HALF;
+use crate::limits::LOADS;
+use crate::limits::MEMBERS;
+use crate::limits::MOMENTS;
+use crate::limits::ROWS;
 use section::bars::bar_at;
 use section::bars::position_of;
 
-// A word's kind is in its top four bits.
+// The kind is a word's top four bits.
 const KIND: u32 = 1 << 28;
 const OPEN: u32 = 1;
 const LAY: u32 = 2;
@@ -16,16 +22,6 @@ const LIFT: u32 = 4;
 const AXIAL: u32 = 5;
 const MOMENT: u32 = 6;
 const SOLVE: u32 = 7;
-
-// Bits 13 to 0 are the lower field of an opening, a lay or a place, and bits 27 to 14 the upper one.
-const UPPER: u32 = 1 << 14;
-// The upper field of a place has the count in its lowest six bits and the bar's position above them.
-const COUNTS: u32 = 1 << 6;
-// The member is in bits 27 and 26.
-const MEMBER: u32 = 1 << 26;
-const MEMBERS: u32 = 1 << 2;
-// The axial load is in two's complement: a word's lowest 28 bits from here on stand for a negative one.
-const NEGATIVE: u32 = 1 << 27;
 
 // The entry that a word stands for.
 pub fn read(word: u32) -> Result<Entry, Fault>
@@ -46,8 +42,8 @@ pub fn write(entry: &Entry) -> Result<u32, Fault>
 fn entry_of(word: u32) -> Result<Entry, Fault>
     ensures { λ r. ⌜ Read word r ⌝ }
 {
-    let upper = word / UPPER % UPPER;
-    let lower = word % UPPER;
+    let upper = word / HALF % HALF;
+    let lower = word % HALF;
     let whole = word % KIND;
     match word / KIND {
         OPEN => Ok(Entry::Open { fc: 100 * upper as i64, fy: 100 * lower as i64 }),
@@ -61,12 +57,10 @@ fn entry_of(word: u32) -> Result<Entry, Fault>
         }
         LIFT => Ok(Entry::Lift { row: whole as i64 }),
         AXIAL => {
-            if whole < NEGATIVE {
-                return Ok(Entry::Axial { pu: whole as i64 });
-            }
-            Ok(Entry::Axial { pu: whole as i64 - KIND as i64 })
+            let pu = whole as i64;
+            Ok(Entry::Axial { pu: if pu < LOADS { pu } else { pu - 2 * LOADS } })
         }
-        MOMENT => Ok(Entry::Moment { member: (whole / MEMBER) as i64, mu: (whole % MEMBER) as i64 }),
+        MOMENT => Ok(Entry::Moment { member: (whole / MOMENTS) as i64, mu: (whole % MOMENTS) as i64 }),
         SOLVE if whole == 0 => Ok(Entry::Solve),
         _ => Err(Fault::Unreadable),
     }
@@ -77,35 +71,33 @@ fn word_of(entry: &Entry) -> Result<u32, Fault>
 {
     match *entry {
         Entry::Open { fc, fy } => {
-            let upper = hundreds(fc, UPPER)?;
-            let lower = hundreds(fy, UPPER)?;
-            Ok(OPEN * KIND + upper * UPPER + lower)
+            let upper = hundreds(fc, HALF)?;
+            let lower = hundreds(fy, HALF)?;
+            Ok(OPEN * KIND + upper * HALF + lower)
         }
         Entry::Lay { thickness, width } => {
-            let upper = field(thickness, UPPER)?;
-            let lower = field(width, UPPER)?;
-            Ok(LAY * KIND + upper * UPPER + lower)
+            let upper = field(thickness, HALF)?;
+            let lower = field(width, HALF)?;
+            Ok(LAY * KIND + upper * HALF + lower)
         }
         Entry::Place { bar, count, depth } => {
             let position = bar_field(bar)?;
             let count = field(count, COUNTS)?;
-            let lower = field(depth, UPPER)?;
-            Ok(PLACE * KIND + (position * COUNTS + count) * UPPER + lower)
+            let lower = field(depth, HALF)?;
+            Ok(PLACE * KIND + (position * COUNTS + count) * HALF + lower)
         }
-        Entry::Lift { row } => Ok(LIFT * KIND + field(row, KIND)?),
+        Entry::Lift { row } => Ok(LIFT * KIND + field(row, ROWS)?),
         Entry::Axial { pu } => {
-            if pu < -(NEGATIVE as i64) || pu >= NEGATIVE as i64 {
+            if pu < -LOADS || pu >= LOADS {
                 return Err(Fault::Unwritable);
             }
-            if pu < 0 {
-                return Ok(((AXIAL * KIND + KIND) as i64 + pu) as u32);
-            }
-            Ok(AXIAL * KIND + pu as u32)
+            let whole = if pu < 0 { pu + 2 * LOADS } else { pu };
+            Ok(AXIAL * KIND + whole as u32)
         }
         Entry::Moment { member, mu } => {
             let upper = field(member, MEMBERS)?;
-            let lower = field(mu, MEMBER)?;
-            Ok(MOMENT * KIND + upper * MEMBER + lower)
+            let lower = field(mu, MOMENTS)?;
+            Ok(MOMENT * KIND + upper * MOMENTS + lower)
         }
         Entry::Solve => Ok(SOLVE * KIND),
     }
