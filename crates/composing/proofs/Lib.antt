@@ -1,4 +1,7 @@
 pub mod Cuts
+pub mod Determined
+pub mod Listings
 pub mod Progress
 pub mod Readings
+pub mod Returned
 pub mod Spelt

@@ -19,7 +19,7 @@ numbers-after label ps rest y z ns h n =
     let same : n .0 ≡ rest = cc in
     subst (Numbers ns) same (n .2)
 
-one-kind : (j k : Kind) → nameOf j ≡ nameOf k → j ≡ k
+pub one-kind : (j k : Kind) → nameOf j ≡ nameOf k → j ≡ k
 one-kind j k e = grind arith
 
 no-entry : (ps : List (List ℕ)) (e : Entry) → NoNumbers (kindOf e) ps → Numbers (numbersOf e) ps → ⊥

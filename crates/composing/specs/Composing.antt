@@ -6,7 +6,10 @@ use Prim.Native.Nat.{ℕ, suc}
 use lib.ListN.{length}
 use Rattle.std.specs.declared.option.Option.the-variants.{Some, None}
 use Rattle.std.specs.declared.result.Result.the-variants.{Ok, Err}
-use Rattle.words.specs.Streams.{spread}
+use Rattle.std.specs.shelf.Lists.{All}
+use Rattle.words.specs.declared.entry.Entry.{Entry}
+use Rattle.words.specs.Streams.{Cut, spread}
+use Rattle.words.specs.Words.{Stands}
 use Rattle.composing.specs.declared.compose.Failure.{Failure}
 use Rattle.composing.specs.declared.compose.Failure.the-variants.{Memory, Line}
 use Rattle.composing.specs.declared.expected.Expected.{Expected}
@@ -39,3 +42,9 @@ pub record FirstLacking (text : List ℕ) (n : ℕ) (x : Expected) : Type 0 wher
 abbrev pub Refused : List ℕ → Failure → Type 0
 Refused text Memory = Unit {0}
 Refused text (Line n x) = FirstLacking text n x
+
+-- a stream with no byte left over, each of whose words stands for an entry
+pub record Readable (stream : List ℕ) : Type 0 where
+  pub words : List ℕ
+  pub whole : Cut stream words []
+  pub each : All (λ w. (e : Entry) × Stands e w) words

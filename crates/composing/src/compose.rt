@@ -1,8 +1,11 @@
 // The stream of words that a text asks for, line by line.
 ghost use mathlib.Core.Path.{_≡_};
+ghost use mathlib.Core.List.{List};
+ghost use Prim.Native.Nat.{ℕ};
 ghost use Rattle.std.specs.Of.Vec.{vec-items};
 ghost use Rattle.std.specs.Results.{Cases};
-ghost use Rattle.composing.specs.Composing.{Composed, Refused};
+ghost use Rattle.listing.specs.Listing.{Listed};
+ghost use Rattle.composing.specs.Composing.{Composed, Readable, Refused};
 ghost use Rattle.composing.specs.declared.compose.Failure.the-variants.{Memory};
 use crate::expected::Expected;
 use crate::expected::ExpectedDebug;
@@ -30,8 +33,15 @@ pub impl From<AllocError> for Failure as FailureFromAlloc {
     }
 }
 
-// The bytes of the words that the lines of a text ask for, in order.
+// The bytes of the words that the lines of a text ask for, in order. The listing of a readable stream gives it back.
 pub fn compose(heap: Global, text: &[u8]) -> Result<Vec<u8>, Failure>
+    ensures composed { λ r. ⌜ Cases r (λ v. Composed (now (text .entry)) (vec-items v)) (λ f. Refused (now (text .entry)) f) ⌝ }
+    ensures gives_back { λ r. ⌜ ((stream : List ℕ) → Readable stream → Listed stream (now (text .entry)) → Cases r (λ v. vec-items v ≡ stream) (λ f. f ≡ Memory)) ⌝ }
+{
+    compose_lines(heap, text)
+}
+
+fn compose_lines(heap: Global, text: &[u8]) -> Result<Vec<u8>, Failure>
     ensures { λ r. ⌜ Cases r (λ v. Composed (now (text .entry)) (vec-items v)) (λ f. Refused (now (text .entry)) f) ⌝ }
 {
     let mut bytes = Vec::new(heap);

@@ -1,10 +1,10 @@
--- No two bars of the table have one number.
+-- No two bars of the table have one number, and each number is small.
 use mathlib.Core.Path.{_≡_, refl, sym, ap, _∙_}
 use mathlib.Core.Bool.{cond}
 use native.Mathlib.Omega.{arith}
 use borrow.Author.Differences.{ints}
-use Prim.Native.Nat.{ℕ, zero, suc, _-_, _<_}
-use lib.Dec.{ltb}
+use Prim.Native.Nat.{ℕ, zero, suc, _-_, _^_, _<_}
+use lib.Dec.{ltb, lit<}
 use lib.IntN.{ℤ}
 use Rattle.std.specs.Options.{Cases}
 use Rattle.std.specs.declared.option.Option.{Option}
@@ -15,25 +15,30 @@ use Rattle.section.specs.Bars.{barAt, rows, Numbered}
 abbrev positionOf : ℕ → ℕ
 positionOf n = cond (ltb n 12) (n - 3) (cond (ltb n 15) 9 10)
 
-position-of-number : (i : ℕ) → i < rows → positionOf (barAt i .number) ≡ i
+-- each row, by computing
+row-facts : (i : ℕ) → i < rows → (positionOf (barAt i .number) ≡ i) × (barAt i .number < 2 ^ 8)
 unfolding barAt
-position-of-number zero h = refl
-position-of-number (suc zero) h = refl
-position-of-number (suc (suc zero)) h = refl
-position-of-number (suc (suc (suc zero))) h = refl
-position-of-number (suc (suc (suc (suc zero)))) h = refl
-position-of-number (suc (suc (suc (suc (suc zero))))) h = refl
-position-of-number (suc (suc (suc (suc (suc (suc zero)))))) h = refl
-position-of-number (suc (suc (suc (suc (suc (suc (suc zero))))))) h = refl
-position-of-number (suc (suc (suc (suc (suc (suc (suc (suc zero)))))))) h = refl
-position-of-number (suc (suc (suc (suc (suc (suc (suc (suc (suc zero))))))))) h = refl
-position-of-number (suc (suc (suc (suc (suc (suc (suc (suc (suc (suc zero)))))))))) h = refl
-position-of-number (suc (suc (suc (suc (suc (suc (suc (suc (suc (suc (suc i))))))))))) h = absurd (omega arith)
+row-facts zero h = (refl, lit< tt)
+row-facts (suc zero) h = (refl, lit< tt)
+row-facts (suc (suc zero)) h = (refl, lit< tt)
+row-facts (suc (suc (suc zero))) h = (refl, lit< tt)
+row-facts (suc (suc (suc (suc zero)))) h = (refl, lit< tt)
+row-facts (suc (suc (suc (suc (suc zero))))) h = (refl, lit< tt)
+row-facts (suc (suc (suc (suc (suc (suc zero)))))) h = (refl, lit< tt)
+row-facts (suc (suc (suc (suc (suc (suc (suc zero))))))) h = (refl, lit< tt)
+row-facts (suc (suc (suc (suc (suc (suc (suc (suc zero)))))))) h = (refl, lit< tt)
+row-facts (suc (suc (suc (suc (suc (suc (suc (suc (suc zero))))))))) h = (refl, lit< tt)
+row-facts (suc (suc (suc (suc (suc (suc (suc (suc (suc (suc zero)))))))))) h = (refl, lit< tt)
+row-facts (suc (suc (suc (suc (suc (suc (suc (suc (suc (suc (suc i))))))))))) h = absurd (omega arith)
+
+-- a bar's number is small
+pub small-number : (i : ℕ) → i < rows → barAt i .number < 2 ^ 8
+small-number i h = row-facts i h .1
 
 pub one-position : (z : ℤ) (i j : ℕ) → Numbered z i → Numbered z j → i ≡ j
 one-position z i j h g =
     let e : barAt i .number ≡ barAt j .number = omega (arith, ints) in
-    sym (position-of-number i (h .0)) ∙ ap positionOf e ∙ position-of-number j (g .0)
+    sym (row-facts i (h .0) .0) ∙ ap positionOf e ∙ row-facts j (g .0) .0
 
 -- so a search that finds some position, or says that there is none, finds the one
 pub found-alone : (z : ℤ) (r : Option ℕ) → Cases r ((i : ℕ) → Numbered z i → ⊥) (λ i. Numbered z i) → (i : ℕ) → Numbered z i → r ≡ Some i

@@ -1,17 +1,15 @@
--- Each line is skipped or adds its word.
+-- What is composed of a listing is the stream that was listed.
 use borrow.Author.Needs.{needs}
-use Rattle.composing.proofs.Progress.{so-far-none, so-far-skip, so-far-word, so-far-all}
+use Prim.Native.Nat.{_^_, _<_}
+use lib.ListN.{length}
+use Rattle.std.specs.Of.Vec.{vec-items}
+use Rattle.composing.proofs.Returned.{given-back}
 use Rattle.composing.proofs.compose.compose.Needs as need
 
-pub loop-rest-holds : need.loop-rest-holds
-loop-rest-holds c = so-far-none _ _ (c .new-bytes .ensures .items)
-
-pub loop-rest-again-in-Continue-put : need.loop-rest-again-in-Continue-put
-loop-rest-again-in-Continue-put c =
-    so-far-word _ _ _ _ _ _ _ (c .in-Ok-Some .word) (search needs) (c .first-run .ensures) (search needs) (c .in-Continue-put .ensures tt) (c .loop-rest .inv)
-
-pub loop-rest-again : need.loop-rest-again
-loop-rest-again c = so-far-skip _ _ _ _ _ _ (search needs) (c .first-run .ensures) (search needs) (c .loop-rest .inv)
-
 pub returns : need.returns
-returns c = so-far-all _ _ _ _ (search needs) (c .loop-rest .inv)
+returns c =
+    let l : length (c .args .text .now) < 2 ^ 64 = search needs in
+    record {
+      composed = c .compose-lines .ensures;
+      gives-back = λ stream readable listed. given-back vec-items _ stream (c .compose-lines .result) l (c .compose-lines .ensures) readable listed
+    }
