@@ -6,9 +6,6 @@ use borrow.Author.Differences.{ints}
 use Prim.Native.Nat.{ℕ, zero, suc, _-_, _^_, _<_}
 use lib.Dec.{ltb, lit<}
 use lib.IntN.{ℤ}
-use Rattle.std.specs.Options.{Cases}
-use Rattle.std.specs.declared.option.Option.{Option}
-use Rattle.std.specs.declared.option.Option.the-variants.{Some, None}
 use Rattle.section.specs.Bars.{barAt, rows, Numbered}
 
 -- the position of a bar by its number: the numbers run from 3 to 11, then come 14 and 18
@@ -39,8 +36,3 @@ pub one-position : (z : ℤ) (i j : ℕ) → Numbered z i → Numbered z j → i
 one-position z i j h g =
     let e : barAt i .number ≡ barAt j .number = omega (arith, ints) in
     sym (row-facts i (h .0) .0) ∙ ap positionOf e ∙ row-facts j (g .0) .0
-
--- so a search that finds some position, or says that there is none, finds the one
-pub found-alone : (z : ℤ) (r : Option ℕ) → Cases r ((i : ℕ) → Numbered z i → ⊥) (λ i. Numbered z i) → (i : ℕ) → Numbered z i → r ≡ Some i
-found-alone z None h i n = absurd (h i n)
-found-alone z (Some j) h i n = ap Some (one-position z j i h n)

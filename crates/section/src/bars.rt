@@ -3,7 +3,6 @@ ghost use mathlib.Core.Path.{_≡_};
 ghost use Prim.Native.Nat.{ℕ, _<_, _≤_};
 ghost use lib.IntN.{pos};
 ghost use Rattle.std.specs.Options.{Cases as BySome};
-ghost use Rattle.std.specs.declared.option.Option.the-variants.{Some};
 ghost use Rattle.section.specs.Bars.{barAt, rows, Numbered};
 
 // A size of bar: its number, and its area in square ticks (a tick is 0.01 inch).
@@ -45,13 +44,6 @@ pub fn bar_at(position: usize) -> Option<Bar>
 
 // The position in the table of the bar with this number.
 pub fn position_of(number: i64) -> Option<usize>
-    ensures found { λ r. ⌜ BySome r ((i : ℕ) → Numbered number i → ⊥) (λ i. Numbered number i) ⌝ }
-    ensures alone { λ r. ⌜ ((i : ℕ) → Numbered number i → r ≡ Some i) ⌝ }
-{
-    search_from_top(number)
-}
-
-fn search_from_top(number: i64) -> Option<usize>
     ensures { λ r. ⌜ BySome r ((i : ℕ) → Numbered number i → ⊥) (λ i. Numbered number i) ⌝ }
 {
     for position in 0..ROWS {

@@ -2,6 +2,7 @@
 ghost use mathlib.Core.Path.{_≡_};
 ghost use mathlib.Core.List.{[], _∷_, _++_};
 ghost use Rattle.std.specs.Of.Vec.{vec-items};
+ghost use Rattle.std.specs.Results.{Cases};
 ghost use Rattle.std.specs.Vec.{made};
 ghost use Rattle.words.specs.Streams.{Cut, joined, spread};
 use std::alloc::AllocError;
@@ -20,9 +21,9 @@ pub fn cut(heap: Global, bytes: &[u8]) -> Result<(Vec<u32>, &[u8]), AllocError>
     Ok((words, rest))
 }
 
-// Adds the bytes of a word to a stream.
+// Adds the bytes of a word to a stream, which stays as it was where memory is wanting.
 pub fn put(bytes: &mut Vec<u8>, word: u32) -> Result<(), AllocError>
-    ensures { λ r. ⌜ made r (λ _. vec-items (now (bytes .exit)) ≡ vec-items (now (bytes .entry)) ++ spread (word ∷ [])) ⌝ }
+    ensures { λ r. ⌜ Cases r (λ _. vec-items (now (bytes .exit)) ≡ vec-items (now (bytes .entry)) ++ spread (word ∷ [])) (λ _. vec-items (now (bytes .exit)) ≡ vec-items (now (bytes .entry))) ⌝ }
 {
     bytes.extend_from_slice(&word.to_be_bytes())
 }

@@ -3,7 +3,7 @@ use mathlib.Core.Path.{_≡_}
 use Prim.Native.Nat.{ℕ, _<_}
 use lib.IntN.{pos}
 use Rattle.section.specs.Bars.{barAt}
-use Rattle.section.proofs.bars.search_from_top.Given as given
+use Rattle.section.proofs.bars.position_of.Given as given
 
 abbrev pub Inv-loop-position : given.InvT-loop-position
 Inv-loop-position l = (i : ℕ) → i < l .position → l .number ≡ pos (barAt i .number) → ⊥
