@@ -7,9 +7,21 @@ use section::bars::bar_numbered;
 use section::bars::position_of;
 use std::test::*;
 
-const FIRST: Bar = Bar { number: 3, area: 1100 };
-const LAST: Bar = Bar { number: 18, area: 40000 };
-const EIGHT: Bar = Bar { number: 8, area: 7900 };
+const FIRST: Bar = Bar {
+    number: 3,
+    area: 1100,
+};
+
+const LAST: Bar = Bar {
+    number: 18,
+    area: 40000,
+};
+
+const EIGHT: Bar = Bar {
+    number: 8,
+    area: 7900,
+};
+
 const NO_BARS: [i64; 9] = [0, 1, 2, 12, 13, 15, 17, 19, -3];
 
 #[test]

@@ -17,27 +17,79 @@ const TEXTS: [(&str, &[u8]); 10] = [
     ("lift row 2\n\nsolve\n", &[0x40, 0, 0, 2, 0x70, 0, 0, 0]),
     ("axial pu -1", &[0x5F, 0xFF, 0xFF, 0xFF]),
     ("axial pu +007", &[0x50, 0, 0, 7]),
-    ("0 place bar 18 count 63 depth 16383\n", &[0x30, 0xAF, 0xFF, 0xFF]),
+    (
+        "0 place bar 18 count 63 depth 16383\n",
+        &[0x30, 0xAF, 0xFF, 0xFF],
+    ),
 ];
 
-const REFUSED: [(&str, &str); 17] = [
-    ("solve\nfoo\nbar\n", "line 2: expected open, lay, place, lift, axial, moment or solve"),
-    ("\n\n12\n", "line 3: expected open, lay, place, lift, axial, moment or solve"),
-    ("1 2 solve", "line 1: expected open, lay, place, lift, axial, moment or solve"),
-    ("refused 13 at 0", "line 1: expected open, lay, place, lift, axial, moment or solve"),
-    ("Solve", "line 1: expected open, lay, place, lift, axial, moment or solve"),
-    ("open fc 4000", "line 1: expected open fc N fy N"),
-    ("lay thickness 1 width 2 3", "line 1: expected lay thickness N width N"),
-    ("place count 1 bar 3 depth 1", "line 1: expected place bar N count N depth N"),
-    ("lift row 9223372036854775808", "line 1: expected lift row N"),
-    ("axial pu", "line 1: expected axial pu N"),
-    ("moment member 1 mu x", "line 1: expected moment member N mu N"),
+const REFUSED: [(&str, &str); 18] = [
+    (
+        "solve\nfoo\nbar\n",
+        "line 2: expected open, lay, place, lift, axial, moment or solve",
+    ),
+    (
+        "\n\n12\n",
+        "line 3: expected open, lay, place, lift, axial, moment or solve",
+    ),
+    (
+        "1 2 solve",
+        "line 1: expected open, lay, place, lift, axial, moment or solve",
+    ),
+    (
+        "refused 13 at 0",
+        "line 1: expected open, lay, place, lift, axial, moment or solve",
+    ),
+    (
+        "Solve",
+        "line 1: expected open, lay, place, lift, axial, moment or solve",
+    ),
+    (
+        "open fc 4000",
+        "line 1: expected open fc N fy N, N a whole number of at most 64 bits",
+    ),
+    (
+        "lay thickness 1 width 2 3",
+        "line 1: expected lay thickness N width N, N a whole number of at most 64 bits",
+    ),
+    (
+        "place count 1 bar 3 depth 1",
+        "line 1: expected place bar N count N depth N, N a whole number of at most 64 bits",
+    ),
+    (
+        "lift row 9223372036854775808",
+        "line 1: expected lift row N, N a whole number of at most 64 bits",
+    ),
+    (
+        "axial pu",
+        "line 1: expected axial pu N, N a whole number of at most 64 bits",
+    ),
+    (
+        "moment member 1 mu x",
+        "line 1: expected moment member N mu N, N a whole number of at most 64 bits",
+    ),
     ("solve # now", "line 1: expected solve alone"),
-    ("#\nopen fc 4050 fy 60000", "line 2: expected fc and fy in hundreds from 0 to 1638300"),
-    ("lay thickness 16384 width 1", "line 1: expected thickness and width from 0 to 16383"),
-    ("place bar 12 count 1 depth 1", "line 1: expected count from 0 to 63, depth from 0 to 16383, bar one of 3 4 5 6 7 8 9 10 11 14 18"),
-    ("axial pu 134217728", "line 1: expected pu from -134217728 to 134217727"),
-    ("moment member 4 mu 0", "line 1: expected member from 0 to 3, mu from 0 to 67108863"),
+    (
+        "#\nopen fc 4050 fy 60000",
+        "line 2: expected fc and fy multiples of 100 from 0 to 1638300",
+    ),
+    (
+        "lay thickness 16384 width 1",
+        "line 1: expected thickness and width from 0 to 16383",
+    ),
+    (
+        "place bar 12 count 1 depth 1",
+        "line 1: expected count from 0 to 63, depth from 0 to 16383, bar one of 3 4 5 6 7 8 9 10 11 14 18",
+    ),
+    ("lift row -1", "line 1: expected row from 0 to 268435455"),
+    (
+        "axial pu 134217728",
+        "line 1: expected pu from -134217728 to 134217727",
+    ),
+    (
+        "moment member 4 mu 0",
+        "line 1: expected member from 0 to 3, mu from 0 to 67108863",
+    ),
 ];
 
 #[test]

@@ -20,7 +20,7 @@ cut-runs s (b ∷ []) (suc n) h l =
     cond-false _ _ _ (h .before 0 (omega arith)) ∙ rw z refl
 cut-runs s (b ∷ c ∷ bs) (suc n) h l =
     let g : FirstEnd s (c ∷ bs) n =
-      record { within = let w = h .within in omega arith; before = λ k m. h .before (suc k) (omega arith); at = λ m. h .at (omega arith) } in
+    record { within = let w = h .within in omega arith; before = λ k m. h .before (suc k) (omega arith); at = λ m. h .at (omega arith) } in
     cond-false _ _ _ (h .before 0 (omega arith)) ∙ ap (onto b) (cut-runs s (c ∷ bs) n g (omega arith))
 
 pub first-run : (s : Separator) (bs run rest more : List ℕ) (n : ℕ) → FirstEnd s bs n → run ≡ take n bs → rest ≡ drop n bs → more ≡ drop 1 rest → FirstRun s bs run more
@@ -28,7 +28,7 @@ first-run s bs run rest more n h p q e =
     let d : more ≡ drop (suc n) bs = e ∙ ap (drop 1) q ∙ drop-drop 1 n bs ∙ ap (λ k. drop k bs) (add-one n) in
     record {
       cut = λ l. rw d (rw p (cut-runs s bs n h l));
-      shorter = λ l. rw d (rw (length-drop (suc n) bs) (omega arith))
+      shorter = λ l. rw d (rw (length-drop (suc n) bs) (omega arith));
     }
 
 -- a run that is empty is no piece

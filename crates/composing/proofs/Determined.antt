@@ -101,10 +101,10 @@ unfolding Asked
 one-asked [] ws vs h g = h ∙ sym g
 one-asked (l ∷ ls) ws vs h g =
     elim h [
-      inl a ↦ elim g [ inl b ↦ one-asked ls ws vs (a .1) (b .1) | inr b ↦ absurd (b .3 .0 (a .0)) ]
-    | inr a ↦ elim g [
-        inl b ↦ absurd (a .3 .0 (b .0))
-      | inr b ↦ a .2 ∙ ap (λ n. n ∷ a .1) (one-answer l (a .0) (b .0) (a .3) (b .3)) ∙ ap (λ us. b .0 ∷ us) (one-asked ls (a .1) (b .1) (a .4) (b .4)) ∙ sym (b .2)
+      | inl a ↦ elim g [ inl b ↦ one-asked ls ws vs (a .1) (b .1) | inr b ↦ absurd (b .3 .0 (a .0)) ]
+      | inr a ↦ elim g [
+        | inl b ↦ absurd (a .3 .0 (b .0))
+        | inr b ↦ a .2 ∙ ap (λ n. n ∷ a .1) (one-answer l (a .0) (b .0) (a .3) (b .3)) ∙ ap (λ us. b .0 ∷ us) (one-asked ls (a .1) (b .1) (a .4) (b .4)) ∙ sym (b .2)
       ]
     ]
 

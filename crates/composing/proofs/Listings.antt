@@ -216,8 +216,8 @@ free-numbers [] w = refl
 free-numbers (n ∷ ns) w =
     rw (shown-more n ns)
     (free-append LineFeed (shownNumber n) (shownNumbers ns)
-      (free-append LineFeed (n .label) (32 ∷ signed (n .value)) (w .0 .label-piece .frees LineFeed) (piece-signed (n .value) (w .0 .bounded) .frees LineFeed))
-      (free-numbers ns (w .1)))
+    (free-append LineFeed (n .label) (32 ∷ signed (n .value)) (w .0 .label-piece .frees LineFeed) (piece-signed (n .value) (w .0 .bounded) .frees LineFeed))
+    (free-numbers ns (w .1)))
 
 free-listed : (i w : ℕ) (e : Entry) → i < 2 ^ 64 → Stands e w → free LineFeed (listedLine i e) ≡ true
 free-listed i w e l h =
@@ -237,10 +237,10 @@ unfolding Asked runs
 asked-listing i [] text l r h = rw h refl
 asked-listing i (w ∷ ws) text l r h =
     elim (h .3) [
-      stands e s p ↦
-        rw (lines-listed i w e (h .0) (h .1) text (omega arith) s p (h .2))
-        (inr (w, ws, refl, answered-listed i w e (omega arith) s, asked-listing (suc i) ws (h .1) (omega arith) (r .1) (h .4)))
-    | unreadable none p ↦ absurd (none (r .0 .0) (r .0 .1))
+      | stands e s p ↦
+          rw (lines-listed i w e (h .0) (h .1) text (omega arith) s p (h .2))
+          (inr (w, ws, refl, answered-listed i w e (omega arith) s, asked-listing (suc i) ws (h .1) (omega arith) (r .1) (h .4)))
+      | unreadable none p ↦ absurd (none (r .0 .0) (r .0 .1))
     ]
 
 -- and has a byte at least for each of them
@@ -248,9 +248,9 @@ pub long-listing : (i : ℕ) (ws text : List ℕ) → All (λ w. (e : Entry) × 
 long-listing i [] text r h = omega arith
 long-listing i (w ∷ ws) text r h =
     let some : 0 < length (h .0) =
-      elim (h .3) [
-        stands e s p ↦ rw p (rw (length-append (decimal i) (32 ∷ (lineOf e ++ (10 ∷ [])))) (omega arith))
+    elim (h .3) [
+      | stands e s p ↦ rw p (rw (length-append (decimal i) (32 ∷ (lineOf e ++ (10 ∷ [])))) (omega arith))
       | unreadable none p ↦ absurd (none (r .0 .0) (r .0 .1))
-      ] in
+    ] in
     let more = long-listing (suc i) ws (h .1) (r .1) (h .4) in
     rw (h .2) (rw (length-append (h .0) (h .1)) (omega arith))

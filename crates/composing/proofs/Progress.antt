@@ -7,14 +7,13 @@ use native.Mathlib.Numerals.{add-one}
 use Prim.Native.Nat.{ℕ, suc, _+_, _<_, _≤_}
 use lib.ListN.{length}
 use Rattle.std.specs.declared.option.Option.the-variants.{Some, None}
-use Rattle.std.specs.declared.result.Result.the-variants.{Ok, Err}
+use Rattle.std.specs.declared.result.Result.the-variants.{Ok}
 use Rattle.std.proofs.shelf.Lists.{append-assoc, append-nil, length-push, nil-from-length}
 use Rattle.words.specs.Streams.{spread}
 use Rattle.words.proofs.Streams.{spread-push}
-use Rattle.composing.specs.declared.expected.Expected.{Expected}
 use Rattle.composing.specs.declared.runs.Separator.the-variants.{LineFeed}
 use Rattle.composing.specs.Asking.{Answered}
-use Rattle.composing.specs.Composing.{Asked, Composed, FirstLacking}
+use Rattle.composing.specs.Composing.{Asked, Composed, Reached}
 use Rattle.composing.specs.Runs.{FirstRun, linesOf, runs}
 
 -- the lines before the rest of the text ask for words whose bytes are there
@@ -25,21 +24,21 @@ pub record SoFar (text rest : List ℕ) (n : ℕ) (bytes : List ℕ) : Type 0 wh
   pub counted : n ≡ length before
   pub few : n + length rest ≤ length text
   pub asked : Asked before words
-  pub spelt : bytes ≡ spread words
+  pub written : bytes ≡ spread words
 
 asked-append : (ls ms : List (List ℕ)) (ws vs : List ℕ) → Asked ls ws → Asked ms vs → Asked (ls ++ ms) (ws ++ vs)
 unfolding Asked
 asked-append [] ms ws vs h g = rw h g
 asked-append (l ∷ ls) ms ws vs h g =
     elim h [
-      inl s ↦ inl (s .0, asked-append ls ms ws vs (s .1) g)
-    | inr s ↦ inr (s .0, s .1 ++ vs, ap (λ us. us ++ vs) (s .2), s .3, asked-append ls ms (s .1) vs (s .4) g)
+      | inl s ↦ inl (s .0, asked-append ls ms ws vs (s .1) g)
+      | inr s ↦ inr (s .0, s .1 ++ vs, ap (λ us. us ++ vs) (s .2), s .3, asked-append ls ms (s .1) vs (s .4) g)
     ]
 
 pub so-far-none : (text bytes : List ℕ) → bytes ≡ [] → SoFar text text 0 bytes
 unfolding Asked
 so-far-none text bytes e =
-    record { before = []; words = []; cut = refl; counted = refl; few = omega arith; asked = refl; spelt = e }
+    record { before = []; words = []; cut = refl; counted = refl; few = omega arith; asked = refl; written = e }
 
 -- the lines before the rest, with the first line of the rest
 cut-more : (lines before : List (List ℕ)) (rest line more : List ℕ) → 0 < length rest → FirstRun LineFeed rest line more → lines ≡ before ++ linesOf rest → lines ≡ (before ++ line ∷ []) ++ linesOf more
@@ -58,7 +57,7 @@ so-far-skip text rest line more bytes n l f a h =
       counted = ap (λ k. k + 1) (h .counted) ∙ sym (length-push (h .before) line);
       few = omega arith;
       asked = subst (Asked (h .before ++ line ∷ [])) (append-nil (h .words)) (asked-append (h .before) (line ∷ []) (h .words) [] (h .asked) (inl (a, refl)));
-      spelt = h .spelt
+      written = h .written;
     }
 
 pub so-far-word : (text rest line more bytes longer : List ℕ) (n w : ℕ) → 0 < length rest → FirstRun LineFeed rest line more → Answered line (Ok (Some w)) → longer ≡ bytes ++ spread (w ∷ []) → SoFar text rest n bytes → SoFar text more (n + 1) longer
@@ -73,24 +72,22 @@ so-far-word text rest line more bytes longer n w l f a e h =
       counted = ap (λ k. k + 1) (h .counted) ∙ sym (length-push (h .before) line);
       few = omega arith;
       asked = asked-append (h .before) (line ∷ []) (h .words) (w ∷ []) (h .asked) (inr (w, [], refl, a, refl));
-      spelt = e ∙ ap (λ bs. bs ++ spread (w ∷ [])) (h .spelt) ∙ sym (rw (append-nil (spread (h .words ++ w ∷ []))) at (spread-push (h .words) w []))
+      written = e ∙ ap (λ bs. bs ++ spread (w ∷ [])) (h .written) ∙ sym (rw (append-nil (spread (h .words ++ w ∷ []))) at (spread-push (h .words) w []));
     }
 
-pub so-far-lacks : (text rest line more bytes : List ℕ) (n : ℕ) (x : Expected) → 0 < length rest → FirstRun LineFeed rest line more → Answered line (Err x) → SoFar text rest n bytes → FirstLacking text (n + 1) x
-so-far-lacks text rest line more bytes n x l f a h =
+pub reached : (text rest line more bytes : List ℕ) (n : ℕ) → 0 < length rest → FirstRun LineFeed rest line more → SoFar text rest n bytes → Reached text line (n + 1)
+reached text rest line more bytes n l f h =
     record {
       before = h .before;
-      line = line;
       after = linesOf more;
       cut = h .cut ∙ ap (λ ls. h .before ++ ls) (f .cut l);
       counted = add-one n ∙ ap suc (h .counted);
       words = h .words;
       asked = h .asked;
-      lacks = a
     }
 
 pub so-far-all : (text rest bytes : List ℕ) (n : ℕ) → length rest ≡ 0 → SoFar text rest n bytes → Composed text bytes
 unfolding runs
 so-far-all text [] bytes n z h =
-    record { words = h .words; asked = subst (λ ls. Asked ls (h .words)) (sym (h .cut ∙ append-nil (h .before))) (h .asked); spelt = h .spelt }
+    record { words = h .words; asked = subst (λ ls. Asked ls (h .words)) (sym (h .cut ∙ append-nil (h .before))) (h .asked); written = h .written }
 so-far-all text (b ∷ bs) bytes n z h = absurd (omega arith)

@@ -32,10 +32,10 @@ ascii-numeral : (bs : List ℕ) → Numeral 10 (afterSign bs) → Ascii bs
 ascii-numeral [] h = absurd (omega arith)
 ascii-numeral (b ∷ bs) h =
     elim (cases-bool (eqb b 45)) [
-      inl e ↦ ascii-cons b bs (let q = eqb-true b 45 e in omega arith) (ascii-from-digits bs ((rw e at h) .1))
-    | inr e ↦ elim (cases-bool (eqb b 43)) [
-        inl f ↦ ascii-cons b bs (let q = eqb-true b 43 f in omega arith) (ascii-from-digits bs ((rw f at (rw e at h)) .1))
-      | inr f ↦ ascii-from-digits (b ∷ bs) ((rw f at (rw e at h)) .1)
+      | inl e ↦ ascii-cons b bs (let q = eqb-true b 45 e in omega arith) (ascii-from-digits bs ((rw e at h) .1))
+      | inr e ↦ elim (cases-bool (eqb b 43)) [
+        | inl f ↦ ascii-cons b bs (let q = eqb-true b 43 f in omega arith) (ascii-from-digits bs ((rw f at (rw e at h)) .1))
+        | inr f ↦ ascii-from-digits (b ∷ bs) ((rw f at (rw e at h)) .1)
       ]
     ]
 

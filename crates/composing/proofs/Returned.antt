@@ -9,11 +9,12 @@ use Rattle.std.specs.declared.result.Result.{Result}
 use Rattle.std.specs.declared.result.Result.the-variants.{Ok, Err}
 use Rattle.std.proofs.shelf.Lists.{append-nil}
 use Rattle.words.specs.Streams.{spread}
+use Rattle.words.specs.Words.{Readable}
 use Rattle.words.proofs.Streams.{one-cut}
 use Rattle.listing.specs.Listing.{Lines, Listed, unfinished}
 use Rattle.composing.specs.declared.compose.Failure.{Failure}
 use Rattle.composing.specs.declared.compose.Failure.the-variants.{Memory, Line}
-use Rattle.composing.specs.Composing.{Asked, Composed, Readable, Refused}
+use Rattle.composing.specs.Composing.{Asked, Composed, Refused}
 use Rattle.composing.specs.Runs.{linesOf}
 use Rattle.composing.proofs.Determined.{one-asked, nothing-lacks}
 use Rattle.composing.proofs.Listings.{asked-listing, long-listing}
@@ -28,7 +29,7 @@ asked-stream text stream l r h =
 
 pub given-back : {V : Type 0} (bytes : V → List ℕ) (text stream : List ℕ) (a : Result V Failure) → length text < 2 ^ 64 → Cases a (λ v. Composed text (bytes v)) (λ f. Refused text f) → Readable stream → Listed stream text → Cases a (λ v. bytes v ≡ stream) (λ f. f ≡ Memory)
 given-back bytes text stream (Ok v) l c r h =
-    c .spelt ∙ ap spread (one-asked (linesOf text) (c .words) (r .words) (c .asked) (asked-stream text stream l r h)) ∙ sym (r .whole .whole ∙ append-nil (spread (r .words)))
+    c .written ∙ ap spread (one-asked (linesOf text) (c .words) (r .words) (c .asked) (asked-stream text stream l r h)) ∙ sym (r .whole .whole ∙ append-nil (spread (r .words)))
 given-back bytes text stream (Err Memory) l c r h = refl
 given-back bytes text stream (Err (Line n x)) l c r h =
-    absurd (nothing-lacks (c .before) (c .after) (c .line) (r .words) x (subst (λ ls. Asked ls (r .words)) (c .cut) (asked-stream text stream l r h)) (c .lacks))
+    absurd (nothing-lacks (c .1 .before) (c .1 .after) (c .0) (r .words) x (subst (λ ls. Asked ls (r .words)) (c .1 .cut) (asked-stream text stream l r h)) (c .2))

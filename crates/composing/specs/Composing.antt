@@ -6,13 +6,9 @@ use Prim.Native.Nat.{ℕ, suc}
 use lib.ListN.{length}
 use Rattle.std.specs.declared.option.Option.the-variants.{Some, None}
 use Rattle.std.specs.declared.result.Result.the-variants.{Ok, Err}
-use Rattle.std.specs.shelf.Lists.{All}
-use Rattle.words.specs.declared.entry.Entry.{Entry}
-use Rattle.words.specs.Streams.{Cut, spread}
-use Rattle.words.specs.Words.{Stands}
+use Rattle.words.specs.Streams.{spread}
 use Rattle.composing.specs.declared.compose.Failure.{Failure}
 use Rattle.composing.specs.declared.compose.Failure.the-variants.{Memory, Line}
-use Rattle.composing.specs.declared.expected.Expected.{Expected}
 use Rattle.composing.specs.Asking.{Answered}
 use Rattle.composing.specs.Runs.{linesOf}
 
@@ -25,26 +21,18 @@ Asked (l ∷ ls) ws = (Answered l (Ok None) × Asked ls ws) ⊎ ((w : ℕ) × (m
 pub record Composed (text bytes : List ℕ) : Type 0 where
   pub words : List ℕ
   pub asked : Asked (linesOf text) words
-  pub spelt : bytes ≡ spread words
+  pub written : bytes ≡ spread words
 
--- line n of the text, counted from 1, is the first that lacks something, and it lacks what was expected
-pub record FirstLacking (text : List ℕ) (n : ℕ) (x : Expected) : Type 0 where
+-- the line is the n-th of the text, counted from 1, and each line before it is skipped or asks for a word
+pub record Reached (text line : List ℕ) (n : ℕ) : Type 0 where
   pub before : List (List ℕ)
-  pub line : List ℕ
   pub after : List (List ℕ)
   pub cut : linesOf text ≡ before ++ (line ∷ after)
   pub counted : n ≡ suc (length before)
   pub words : List ℕ
   pub asked : Asked before words
-  pub lacks : Answered line (Err x)
 
--- no stream is made: the text has such a line, or memory is wanting
+-- no stream is made: the text has such a line which lacks what was expected, or one for whose word memory is wanting
 abbrev pub Refused : List ℕ → Failure → Type 0
-Refused text Memory = Unit {0}
-Refused text (Line n x) = FirstLacking text n x
-
--- a stream with no byte left over, each of whose words stands for an entry
-pub record Readable (stream : List ℕ) : Type 0 where
-  pub words : List ℕ
-  pub whole : Cut stream words []
-  pub each : All (λ w. (e : Entry) × Stands e w) words
+Refused text Memory = (line : List ℕ) × (n : ℕ) × Reached text line n × ((w : ℕ) × Answered line (Ok (Some w)))
+Refused text (Line n x) = (line : List ℕ) × Reached text line n × Answered line (Err x)

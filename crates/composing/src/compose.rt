@@ -5,23 +5,23 @@ ghost use Prim.Native.Nat.{ℕ};
 ghost use Rattle.std.specs.Of.Vec.{vec-items};
 ghost use Rattle.std.specs.Results.{Cases};
 ghost use Rattle.listing.specs.Listing.{Listed};
-ghost use Rattle.composing.specs.Composing.{Composed, Readable, Refused};
+ghost use Rattle.words.specs.Words.{Readable};
+ghost use Rattle.composing.specs.Composing.{Composed, Refused};
 ghost use Rattle.composing.specs.declared.compose.Failure.the-variants.{Memory};
 use crate::expected::Expected;
 use crate::expected::ExpectedDebug;
-use crate::expected::ExpectedPartialEq;
-use crate::line::word_of;
+use crate::line::word_asked;
 use crate::runs::Separator;
 use crate::runs::first_run;
 use std::alloc::AllocError;
 use std::alloc::Global;
 use words::stream::put;
 
-// Why no stream was made of a text.
-#[derive(Clone, Copy, PartialEq, Debug)]
+// Why no stream was made of a text: memory was wanting for a word, or a line asks for none and is not skipped.
+#[derive(Clone, Copy, Debug)]
 pub enum Failure {
     Memory,
-    // the first line that asks for no word and is not skipped; lines count from 1
+    // the first such line, counted from 1, and what was expected of it
     Line { number: usize, expected: Expected },
 }
 
@@ -50,7 +50,7 @@ fn compose_lines(heap: Global, text: &[u8]) -> Result<Vec<u8>, Failure>
     while !rest.is_empty() {
         let (line, more) = first_run(rest, Separator::LineFeed);
         number += 1;
-        match word_of(line) {
+        match word_asked(line) {
             Ok(Some(word)) => put(&mut bytes, word)?,
             Ok(None) => {}
             Err(expected) => return Err(Failure::Line { number, expected }),

@@ -1,9 +1,8 @@
 // What was expected of a line that asks for no word.
 use words::kind::Kind;
 use words::kind::KindDebug;
-use words::kind::KindPartialEq;
 
-#[derive(Clone, Copy, PartialEq, Debug)]
+#[derive(Clone, Copy, Debug)]
 pub enum Expected {
     // the name of a kind of entry
     Name,

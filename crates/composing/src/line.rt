@@ -9,13 +9,13 @@ ghost use Rattle.composing.specs.Spelling.{Spells};
 use crate::expected::Expected;
 use crate::figures::all_digits;
 use crate::runs::first_piece;
-use crate::spelling::entry_of;
+use crate::spelling::entry_of_kind;
 use crate::spelling::kind_named;
 use words::entry::Entry;
 use words::word::write;
 
 // The word that a line asks for, or none where the line is skipped.
-pub(crate) fn word_of(line: &[u8]) -> Result<Option<u32>, Expected>
+pub(crate) fn word_asked(line: &[u8]) -> Result<Option<u32>, Expected>
     ensures { λ r. ⌜ Answered (now (line .entry)) r ⌝ }
 {
     if is_skipped(line) {
@@ -68,7 +68,7 @@ fn entry_spelt(line: &[u8]) -> Result<Entry, Expected>
     let Some(kind) = kind_named(name) else {
         return Err(Expected::Name);
     };
-    match entry_of(kind, rest) {
+    match entry_of_kind(kind, rest) {
         Some(entry) => Ok(entry),
         None => Err(Expected::Numbers(kind)),
     }

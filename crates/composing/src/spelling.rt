@@ -32,7 +32,7 @@ pub(crate) fn kind_named(name: &[u8]) -> Option<Kind>
 }
 
 // The entry of a kind whose numbers a line writes.
-pub(crate) fn entry_of(kind: Kind, line: &[u8]) -> Option<Entry>
+pub(crate) fn entry_of_kind(kind: Kind, line: &[u8]) -> Option<Entry>
     ensures { λ r. ⌜ BySome r (NoNumbers kind (pieces (now (line .entry)))) (λ e. (kindOf e ≡ kind) × Numbers (numbersOf e) (pieces (now (line .entry)))) ⌝ }
 {
     match kind {
@@ -48,8 +48,12 @@ pub(crate) fn entry_of(kind: Kind, line: &[u8]) -> Option<Entry>
             let (bar, count, depth) = three(line, b"bar", b"count", b"depth")?;
             Some(Entry::Place { bar, count, depth })
         }
-        Kind::Lift => Some(Entry::Lift { row: one(line, b"row")? }),
-        Kind::Axial => Some(Entry::Axial { pu: one(line, b"pu")? }),
+        Kind::Lift => Some(Entry::Lift {
+            row: one(line, b"row")?,
+        }),
+        Kind::Axial => Some(Entry::Axial {
+            pu: one(line, b"pu")?,
+        }),
         Kind::Moment => {
             let (member, mu) = two(line, b"member", b"mu")?;
             Some(Entry::Moment { member, mu })

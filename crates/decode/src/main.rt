@@ -5,6 +5,10 @@ use std::io::Read;
 use std::io::Write;
 
 fn main(rt: LibcRuntime) -> io::Result<()> {
+    rt.report(decode(&rt))
+}
+
+fn decode(rt: &LibcRuntime) -> io::Result<()> {
     let heap = rt.alloc();
     let mut bytes = Vec::new(heap);
     rt.stdin().read_to_end(&mut bytes)?;

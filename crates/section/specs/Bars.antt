@@ -3,9 +3,10 @@ use mathlib.Core.Path.{_≡_}
 use mathlib.Core.List.{List, [], _∷_}
 use Prim.Native.Nat.{ℕ, _<_}
 use lib.IntN.{ℤ, pos}
-use lib.ListN.{getD}
+use lib.ListN.{length, getD}
 use Rattle.section.specs.declared.bars.Bar.{Bar}
 
+-- a bar with a number and an area
 abbrev bar : ℕ → ℕ → Bar
 bar n a = record { number = n; area = a }
 
@@ -16,9 +17,9 @@ bars =
 
 -- how many there are
 abbrev pub rows : ℕ
-rows = 11
+rows = length bars
 
--- the bar at a position of that list, counted from 0
+-- the bar at a position of that list, counted from 0; past the end one that no position below `rows` has
 unfoldable pub barAt : ℕ → Bar
 barAt i = getD bars i (bar 0 0)
 

@@ -1,4 +1,4 @@
-// The table of reinforcing bars, the only place that has their numbers and areas.
+// The table of reinforcing bars: the only place in the programs that has their numbers and areas.
 ghost use mathlib.Core.Path.{_≡_};
 ghost use Prim.Native.Nat.{ℕ, _<_, _≤_};
 ghost use lib.IntN.{pos};
@@ -12,20 +12,54 @@ pub struct Bar {
     pub area: u32,
 }
 
-const ROWS: usize = 11;
+// How many bars the table has.
+pub const ROWS: usize = 11;
 
 const BARS: [Bar; ROWS] = [
-    Bar { number: 3, area: 1100 },
-    Bar { number: 4, area: 2000 },
-    Bar { number: 5, area: 3100 },
-    Bar { number: 6, area: 4400 },
-    Bar { number: 7, area: 6000 },
-    Bar { number: 8, area: 7900 },
-    Bar { number: 9, area: 10000 },
-    Bar { number: 10, area: 12700 },
-    Bar { number: 11, area: 15600 },
-    Bar { number: 14, area: 22500 },
-    Bar { number: 18, area: 40000 },
+    Bar {
+        number: 3,
+        area: 1100,
+    },
+    Bar {
+        number: 4,
+        area: 2000,
+    },
+    Bar {
+        number: 5,
+        area: 3100,
+    },
+    Bar {
+        number: 6,
+        area: 4400,
+    },
+    Bar {
+        number: 7,
+        area: 6000,
+    },
+    Bar {
+        number: 8,
+        area: 7900,
+    },
+    Bar {
+        number: 9,
+        area: 10000,
+    },
+    Bar {
+        number: 10,
+        area: 12700,
+    },
+    Bar {
+        number: 11,
+        area: 15600,
+    },
+    Bar {
+        number: 14,
+        area: 22500,
+    },
+    Bar {
+        number: 18,
+        area: 40000,
+    },
 ];
 
 fn row(position: usize) -> Bar
@@ -39,7 +73,11 @@ fn row(position: usize) -> Bar
 pub fn bar_at(position: usize) -> Option<Bar>
     ensures { λ r. ⌜ BySome r (rows ≤ position) (λ b. (position < rows) × (b ≡ barAt position)) ⌝ }
 {
-    if position < ROWS { Some(row(position)) } else { None }
+    if position < ROWS {
+        Some(row(position))
+    } else {
+        None
+    }
 }
 
 // The position in the table of the bar with this number.

@@ -1,2 +1,2 @@
-// The reinforced concrete section. For now: the table of bars.
+// The reinforced concrete section: the bars that it may hold.
 pub mod bars;

@@ -56,7 +56,7 @@ one-entry-read w r h =
     record {
       alone = read-alone w r h;
       written-back = λ e q k i. written-alone e q k w (subst (Read w) i h);
-      read-back = λ e q k i. read-alone w r h e (subst (Written e) i k)
+      read-back = λ e q k i. read-alone w r h e (subst (Written e) i k);
     }
 
 pub one-word-written : (e : Entry) (q : Result ℕ Fault) → Written e q → OneWord e q
@@ -64,5 +64,5 @@ one-word-written e q k =
     record {
       alone = written-alone e q k;
       read-back = λ w r h i. one-entry-read w r h .read-back e q k i;
-      written-back = λ w r h i. one-entry-read w r h .written-back e q k i
+      written-back = λ w r h i. one-entry-read w r h .written-back e q k i;
     }

@@ -1,4 +1,4 @@
--- The kinds of entry, and the names by which lines tell them.
+-- The kinds of entry and their names.
 use mathlib.Core.List.{List}
 use Prim.Native.Nat.{ℕ}
 use lib.Chars.{codes}
@@ -7,6 +7,7 @@ use Rattle.words.specs.declared.entry.Entry.the-variants as entry
 use Rattle.words.specs.declared.kind.Kind.{Kind}
 use Rattle.words.specs.declared.kind.Kind.the-variants.{Open, Lay, Place, Lift, Axial, Moment, Solve}
 
+-- the name with which the line of an entry of this kind begins
 abbrev pub nameOf : Kind → List ℕ
 nameOf Open = codes "open"
 nameOf Lay = codes "lay"
@@ -16,6 +17,7 @@ nameOf Axial = codes "axial"
 nameOf Moment = codes "moment"
 nameOf Solve = codes "solve"
 
+-- the kind of an entry
 abbrev pub kindOf : Entry → Kind
 kindOf (entry.Open fc fy) = Open
 kindOf (entry.Lay thickness width) = Lay

@@ -13,6 +13,7 @@ pub record Labelled : Type 0 where
   pub label : List ℕ
   pub value : ℤ
 
+-- the number z with the label l
 abbrev pub labelled : List ℕ → ℤ → Labelled
 labelled l z = record { label = l; value = z }
 
@@ -30,6 +31,7 @@ numbersOf Solve = []
 abbrev pub shownNumber : Labelled → List ℕ
 shownNumber n = codes " " ++ (n .label ++ (codes " " ++ signed (n .value)))
 
+-- such numbers one after another
 abbrev pub shownNumbers : List Labelled → List ℕ
 shownNumbers [] = []
 shownNumbers (n ∷ []) = shownNumber n

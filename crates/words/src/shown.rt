@@ -11,7 +11,10 @@ pub impl fmt::Display for Entry as EntryDisplay {
         match *self {
             Entry::Open { fc, fy } => write!(f, "open fc {fc} fy {fy}"),
             Entry::Lay { thickness, width } => write!(f, "lay thickness {thickness} width {width}"),
-            Entry::Place { bar, count, depth } => write!(f, "place bar {bar} count {count} depth {depth}"),
+            Entry::Place { bar, count, depth } => write!(
+                f,
+                "place bar {bar} count {count} depth {depth}"
+            ),
             Entry::Lift { row } => write!(f, "lift row {row}"),
             Entry::Axial { pu } => write!(f, "axial pu {pu}"),
             Entry::Moment { member, mu } => write!(f, "moment member {member} mu {mu}"),

@@ -4,23 +4,31 @@ ghost use Prim.Native.Nat.{ℕ, _<_};
 ghost use Rattle.words.specs.Words.{Read, Written, Field, Hundreds, Position, OneEntry, OneWord};
 use crate::entry::Entry;
 use crate::fault::Fault;
-use crate::limits::COUNTS;
-use crate::limits::HALF;
-use crate::limits::LOADS;
-use crate::limits::MEMBERS;
-use crate::limits::MOMENTS;
-use crate::limits::ROWS;
+use crate::limits::COUNT_LIMIT;
+use crate::limits::FIELD_LIMIT;
+use crate::limits::MEMBER_LIMIT;
+use crate::limits::MU_LIMIT;
+use crate::limits::PU_LIMIT;
+use crate::limits::ROW_LIMIT;
+use crate::limits::STRENGTH_STEP;
 use section::bars::bar_at;
 use section::bars::position_of;
 
 // The kind is a word's top four bits.
 const KIND: u32 = 1 << 28;
+
 const OPEN: u32 = 1;
+
 const LAY: u32 = 2;
+
 const PLACE: u32 = 3;
+
 const LIFT: u32 = 4;
+
 const AXIAL: u32 = 5;
+
 const MOMENT: u32 = 6;
+
 const SOLVE: u32 = 7;
 
 // The entry that a word stands for.
@@ -42,25 +50,40 @@ pub fn write(entry: &Entry) -> Result<u32, Fault>
 fn entry_of(word: u32) -> Result<Entry, Fault>
     ensures { λ r. ⌜ Read word r ⌝ }
 {
-    let upper = word / HALF % HALF;
-    let lower = word % HALF;
+    let upper = word / FIELD_LIMIT % FIELD_LIMIT;
+    let lower = word % FIELD_LIMIT;
     let whole = word % KIND;
     match word / KIND {
-        OPEN => Ok(Entry::Open { fc: 100 * upper as i64, fy: 100 * lower as i64 }),
-        LAY => Ok(Entry::Lay { thickness: upper as i64, width: lower as i64 }),
+        OPEN => Ok(Entry::Open {
+            fc: (STRENGTH_STEP * upper) as i64,
+            fy: (STRENGTH_STEP * lower) as i64,
+        }),
+        LAY => Ok(Entry::Lay {
+            thickness: upper as i64,
+            width: lower as i64,
+        }),
         PLACE => {
             // a stray bit above the position makes it one that no bar has
-            let Some(bar) = bar_at((upper / COUNTS) as usize) else {
+            let Some(bar) = bar_at((upper / COUNT_LIMIT) as usize) else {
                 return Err(Fault::Unreadable);
             };
-            Ok(Entry::Place { bar: bar.number as i64, count: (upper % COUNTS) as i64, depth: lower as i64 })
+            Ok(Entry::Place {
+                bar: bar.number as i64,
+                count: (upper % COUNT_LIMIT) as i64,
+                depth: lower as i64,
+            })
         }
         LIFT => Ok(Entry::Lift { row: whole as i64 }),
         AXIAL => {
             let pu = whole as i64;
-            Ok(Entry::Axial { pu: if pu < LOADS { pu } else { pu - 2 * LOADS } })
+            Ok(Entry::Axial {
+                pu: if pu < PU_LIMIT { pu } else { pu - 2 * PU_LIMIT },
+            })
         }
-        MOMENT => Ok(Entry::Moment { member: (whole / MOMENTS) as i64, mu: (whole % MOMENTS) as i64 }),
+        MOMENT => Ok(Entry::Moment {
+            member: (whole / MU_LIMIT) as i64,
+            mu: (whole % MU_LIMIT) as i64,
+        }),
         SOLVE if whole == 0 => Ok(Entry::Solve),
         _ => Err(Fault::Unreadable),
     }
@@ -71,33 +94,33 @@ fn word_of(entry: &Entry) -> Result<u32, Fault>
 {
     match *entry {
         Entry::Open { fc, fy } => {
-            let upper = hundreds(fc, HALF)?;
-            let lower = hundreds(fy, HALF)?;
-            Ok(OPEN * KIND + upper * HALF + lower)
+            let upper = hundreds(fc, FIELD_LIMIT)?;
+            let lower = hundreds(fy, FIELD_LIMIT)?;
+            Ok(OPEN * KIND + upper * FIELD_LIMIT + lower)
         }
         Entry::Lay { thickness, width } => {
-            let upper = field(thickness, HALF)?;
-            let lower = field(width, HALF)?;
-            Ok(LAY * KIND + upper * HALF + lower)
+            let upper = field(thickness, FIELD_LIMIT)?;
+            let lower = field(width, FIELD_LIMIT)?;
+            Ok(LAY * KIND + upper * FIELD_LIMIT + lower)
         }
         Entry::Place { bar, count, depth } => {
             let position = bar_field(bar)?;
-            let count = field(count, COUNTS)?;
-            let lower = field(depth, HALF)?;
-            Ok(PLACE * KIND + (position * COUNTS + count) * HALF + lower)
+            let count = field(count, COUNT_LIMIT)?;
+            let lower = field(depth, FIELD_LIMIT)?;
+            Ok(PLACE * KIND + (position * COUNT_LIMIT + count) * FIELD_LIMIT + lower)
         }
-        Entry::Lift { row } => Ok(LIFT * KIND + field(row, ROWS)?),
+        Entry::Lift { row } => Ok(LIFT * KIND + field(row, ROW_LIMIT)?),
         Entry::Axial { pu } => {
-            if pu < -LOADS || pu >= LOADS {
+            if pu < -PU_LIMIT || pu >= PU_LIMIT {
                 return Err(Fault::Unwritable);
             }
-            let whole = if pu < 0 { pu + 2 * LOADS } else { pu };
+            let whole = if pu < 0 { pu + 2 * PU_LIMIT } else { pu };
             Ok(AXIAL * KIND + whole as u32)
         }
         Entry::Moment { member, mu } => {
-            let upper = field(member, MEMBERS)?;
-            let lower = field(mu, MOMENTS)?;
-            Ok(MOMENT * KIND + upper * MOMENTS + lower)
+            let upper = field(member, MEMBER_LIMIT)?;
+            let lower = field(mu, MU_LIMIT)?;
+            Ok(MOMENT * KIND + upper * MU_LIMIT + lower)
         }
         Entry::Solve => Ok(SOLVE * KIND),
     }
@@ -113,18 +136,19 @@ fn field(value: i64, limit: u32) -> Result<u32, Fault>
     Ok(value as u32)
 }
 
-// A number that a field takes in hundreds.
+// A strength, which a field takes in hundreds.
 fn hundreds(value: i64, limit: u32) -> Result<u32, Fault>
     ensures { λ r. ⌜ Hundreds limit value r ⌝ }
 {
     if value < 0 {
         return Err(Fault::Unwritable);
     }
+    let step = STRENGTH_STEP as u64;
     let value = value as u64;
-    if value % 100 != 0 || value / 100 >= limit as u64 {
+    if value % step != 0 || value / step >= limit as u64 {
         return Err(Fault::Unwritable);
     }
-    Ok((value / 100) as u32)
+    Ok((value / step) as u32)
 }
 
 // The field of a bar: its position in the table.

@@ -11,5 +11,5 @@ returns c =
     let l : length (c .args .text .now) < 2 ^ 64 = search needs in
     record {
       composed = c .compose-lines .ensures;
-      gives-back = λ stream readable listed. given-back vec-items _ stream (c .compose-lines .result) l (c .compose-lines .ensures) readable listed
+      gives-back = λ stream readable listed. given-back vec-items _ stream (c .compose-lines .result) l (c .compose-lines .ensures) readable listed;
     }

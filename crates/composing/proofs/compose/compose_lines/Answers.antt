@@ -1,6 +1,7 @@
--- Each line is skipped or adds its word.
+-- Each line is skipped or adds its word, unless memory is wanting for it.
 use borrow.Author.Needs.{needs}
-use Rattle.composing.proofs.Progress.{so-far-none, so-far-skip, so-far-word, so-far-all}
+use Rattle.std.proofs.shelf.Results.{err-from-errBy}
+use Rattle.composing.proofs.Progress.{reached, so-far-none, so-far-skip, so-far-word, so-far-all}
 use Rattle.composing.proofs.compose.compose_lines.Needs as need
 
 pub loop-rest-holds : need.loop-rest-holds
@@ -15,3 +16,8 @@ loop-rest-again c = so-far-skip _ _ _ _ _ _ (search needs) (c .first-run .ensure
 
 pub returns : need.returns
 returns c = so-far-all _ _ _ _ (search needs) (c .loop-rest .inv)
+
+pub returns-in-Break-put : need.returns-in-Break-put
+returns-in-Break-put c =
+    let p = err-from-errBy (c .from-residual .result) (c .from-residual .ensures .1) in
+    rw (p .1, p .2) (_, _, reached _ _ _ _ _ _ (search needs) (c .first-run .ensures) (c .loop-rest .inv), (c .in-Ok-Some .word, search needs))

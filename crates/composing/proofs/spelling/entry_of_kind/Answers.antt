@@ -1,5 +1,5 @@
 -- Where the numbers of a kind are not found, no entry of that kind has them.
-use Rattle.composing.proofs.spelling.entry_of.Needs as need
+use Rattle.composing.proofs.spelling.entry_of_kind.Needs as need
 
 pub returns-in-Break-fc : need.returns-in-Break-fc
 returns-in-Break-fc c = rw (c .from-residual .ensures) (rw (c .in-Open .is) (c .in-Break-fc .ensures tt))
