@@ -102,6 +102,12 @@ fn lines_ask_for_words(rt: LibcRuntime) -> Result<(), Fail> {
 }
 
 #[test]
+fn want_of_memory_is_told(rt: LibcRuntime) -> Result<(), Fail> {
+    let failure = Failure::Memory;
+    check_eq(format!(rt.alloc(), "{failure}")?.as_str(), "out of memory")
+}
+
+#[test]
 fn lines_are_refused(rt: LibcRuntime) -> Result<(), Fail> {
     for (text, told) in REFUSED.iter() {
         match compose(rt.alloc(), text.as_bytes()) {
