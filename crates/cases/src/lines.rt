@@ -44,29 +44,23 @@ const REFUSED: [(&str, &str); 18] = [
         "Solve",
         "line 1: expected open, lay, place, lift, axial, moment or solve",
     ),
-    (
-        "open fc 4000",
-        "line 1: expected open fc N fy N, N a whole number of at most 64 bits",
-    ),
+    ("open fc 4000", "line 1: expected open fc N fy N"),
     (
         "lay thickness 1 width 2 3",
-        "line 1: expected lay thickness N width N, N a whole number of at most 64 bits",
+        "line 1: expected lay thickness N width N",
     ),
     (
         "place count 1 bar 3 depth 1",
-        "line 1: expected place bar N count N depth N, N a whole number of at most 64 bits",
+        "line 1: expected place bar N count N depth N",
     ),
     (
         "lift row 9223372036854775808",
-        "line 1: expected lift row N, N a whole number of at most 64 bits",
+        "line 1: expected lift row N",
     ),
-    (
-        "axial pu",
-        "line 1: expected axial pu N, N a whole number of at most 64 bits",
-    ),
+    ("axial pu", "line 1: expected axial pu N"),
     (
         "moment member 1 mu x",
-        "line 1: expected moment member N mu N, N a whole number of at most 64 bits",
+        "line 1: expected moment member N mu N",
     ),
     ("solve # now", "line 1: expected solve alone"),
     (

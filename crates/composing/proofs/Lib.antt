@@ -5,3 +5,4 @@ pub mod Progress
 pub mod Readings
 pub mod Returned
 pub mod Spelt
+pub mod Told

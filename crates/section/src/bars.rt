@@ -3,7 +3,7 @@ ghost use mathlib.Core.Path.{_≡_};
 ghost use Prim.Native.Nat.{ℕ, _<_, _≤_};
 ghost use lib.IntN.{pos};
 ghost use Rattle.std.specs.Options.{Cases as BySome};
-ghost use Rattle.section.specs.Bars.{barAt, rows, Numbered};
+ghost use Rattle.section.specs.Bars.{bars, barAt, rows, Numbered};
 
 // A size of bar: its number, and its area in square ticks (a tick is 0.01 inch).
 #[derive(Clone, Copy, PartialEq, Eq, Debug)]
@@ -12,8 +12,7 @@ pub struct Bar {
     pub area: u32,
 }
 
-// How many bars the table has.
-pub const ROWS: usize = 11;
+const ROWS: usize = 11;
 
 const BARS: [Bar; ROWS] = [
     Bar {
@@ -61,6 +60,13 @@ const BARS: [Bar; ROWS] = [
         area: 40000,
     },
 ];
+
+// The whole table, in order.
+pub fn table() -> &'static [Bar]
+    ensures { λ r. ⌜ now r ≡ bars ⌝ }
+{
+    &BARS
+}
 
 fn row(position: usize) -> Bar
     requires { ⌜ position < rows ⌝ }
