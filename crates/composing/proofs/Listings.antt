@@ -1,8 +1,8 @@
 -- A line of a listing asks for the word that it lists.
-use mathlib.Core.Path.{_≡_, refl, sym, ap, subst, _∙_}
+use mathlib.Core.Path.{_≡_, refl, sym, ap, _∙_}
 use mathlib.Core.Bool.{Bool, true, false, not, _&&_}
 use mathlib.Core.List.{List, [], _∷_, _++_}
-use mathlib.Core.Logic.{inl, inr}
+use mathlib.Core.Logic.{inr}
 use native.Mathlib.Omega.{arith}
 use Prim.Native.Nat.{ℕ, suc, _+_, _*_, _/_, _%_, _^_, _<_, _≤_}
 use borrow.Author.Differences.{ints}
@@ -11,8 +11,6 @@ use lib.Dec.{eqb, lit<}
 use lib.IntN.{ℤ, pos, negsuc, _-ℤ_}
 use lib.ListN.{length, getD}
 use lib.Signed.{mag}
-use mir.Syntax.{w64}
-use mir.Val.{SFits}
 use Rattle.std.specs.Reads.{value}
 use Rattle.std.specs.Text.{In}
 use Rattle.std.specs.Written.{decimal, signed}
@@ -32,7 +30,7 @@ use Rattle.words.specs.declared.kind.Kind.the-variants as kinds
 use Rattle.words.specs.Kinds.{kindOf, nameOf}
 use Rattle.words.specs.Lines.{Labelled, labelled, lineOf, numbersOf, shownNumber, shownNumbers}
 use Rattle.words.specs.Words.{Stands, bits, lowest}
-use Rattle.listing.specs.Listing.{Line, Lines, entryLine}
+use Rattle.listing.specs.Listing.{Lines, entryLine}
 use Rattle.listing.specs.Listing.Line.{stands, unreadable}
 use Rattle.composing.specs.declared.runs.Separator.{Separator}
 use Rattle.composing.specs.declared.runs.Separator.the-variants.{LineFeed, Blank}

@@ -1,14 +1,14 @@
 -- A stream is composed line by line, and ends with the text or at the first line that lacks something.
 use mathlib.Core.Path.{_≡_, refl, sym, ap, subst, _∙_}
 use mathlib.Core.List.{List, [], _∷_, _++_}
-use mathlib.Core.Logic.{inl, inr, ⊎-elim}
+use mathlib.Core.Logic.{inl, inr}
 use native.Mathlib.Omega.{arith}
 use native.Mathlib.Numerals.{add-one}
 use Prim.Native.Nat.{ℕ, suc, _+_, _<_, _≤_}
 use lib.ListN.{length}
 use Rattle.std.specs.declared.option.Option.the-variants.{Some, None}
 use Rattle.std.specs.declared.result.Result.the-variants.{Ok}
-use Rattle.std.proofs.shelf.Lists.{append-assoc, append-nil, length-push, nil-from-length}
+use Rattle.std.proofs.shelf.Lists.{append-assoc, append-nil, length-push}
 use Rattle.words.specs.Streams.{spread}
 use Rattle.words.proofs.Streams.{spread-push}
 use Rattle.composing.specs.declared.runs.Separator.the-variants.{LineFeed}

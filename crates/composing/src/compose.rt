@@ -46,7 +46,7 @@ fn compose_lines(heap: Global, text: &[u8]) -> Result<Vec<u8>, Failure>
 {
     let mut bytes = Vec::new(heap);
     let mut rest = text;
-    let mut number = 0;
+    let mut number: usize = 0;
     while !rest.is_empty() {
         let (line, more) = first_run(rest, Separator::LineFeed);
         number += 1;

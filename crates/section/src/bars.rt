@@ -1,7 +1,6 @@
 // The table of reinforcing bars: the only place in the programs that has their numbers and areas.
 ghost use mathlib.Core.Path.{_≡_};
 ghost use Prim.Native.Nat.{ℕ, _<_, _≤_};
-ghost use lib.IntN.{pos};
 ghost use Rattle.std.specs.Options.{Cases as BySome};
 ghost use Rattle.section.specs.Bars.{bars, barAt, rows, Numbered};
 

@@ -1,6 +1,4 @@
 // A word and the entry that it stands for.
-ghost use mathlib.Core.Path.{_≡_};
-ghost use Prim.Native.Nat.{ℕ, _<_};
 ghost use Rattle.words.specs.Words.{Read, Written, Field, Hundreds, Position, OneEntry, OneWord};
 use crate::entry::Entry;
 use crate::fault::Fault;

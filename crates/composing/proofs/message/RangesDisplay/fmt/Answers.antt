@@ -1,5 +1,4 @@
 -- What the numbers of each kind may be is told as its definition says.
-use borrow.Author.Needs.{needs}
 use Rattle.composing.proofs.message.RangesDisplay.fmt.Needs as need
 
 pub returns-in-Open : need.returns-in-Open
