@@ -10,7 +10,7 @@ use Rattle.std.specs.declared.option.Option.the-variants.{Some, None}
 use Rattle.std.specs.declared.result.Result.the-variants.{Ok}
 use Rattle.std.proofs.shelf.Lists.{append-assoc, append-nil, length-push}
 use Rattle.words.specs.Streams.{spread}
-use Rattle.words.proofs.Streams.{spread-push}
+use Rattle.words.proofs.Streams.{spread-append}
 use Rattle.composing.specs.declared.runs.Separator.the-variants.{LineFeed}
 use Rattle.composing.specs.Asking.{Answered}
 use Rattle.composing.specs.Composing.{Asked, Composed, Reached}
@@ -45,34 +45,27 @@ cut-more : (lines before : List (List ℕ)) (rest line more : List ℕ) → 0 < 
 cut-more lines before rest line more l f e =
     e ∙ ap (λ ls. before ++ ls) (f .cut l) ∙ sym (append-assoc before (line ∷ []) (linesOf more))
 
-pub so-far-skip : (text rest line more bytes : List ℕ) (n : ℕ) → 0 < length rest → FirstRun LineFeed rest line more → Answered line (Ok None) → SoFar text rest n bytes → SoFar text more (n + 1) bytes
+-- a line that is skipped asks for no word, and any other for one
+pub asked-skipped : (line : List ℕ) → Answered line (Ok None) → Asked (line ∷ []) []
 unfolding Asked
-so-far-skip text rest line more bytes n l f a h =
-    let shorter = f .shorter l in
-    let few = h .few in
-    record {
-      before = h .before ++ line ∷ [];
-      words = h .words;
-      cut = cut-more _ (h .before) rest line more l f (h .cut);
-      counted = ap (λ k. k + 1) (h .counted) ∙ sym (length-push (h .before) line);
-      few = omega arith;
-      asked = subst (Asked (h .before ++ line ∷ [])) (append-nil (h .words)) (asked-append (h .before) (line ∷ []) (h .words) [] (h .asked) (inl (a, refl)));
-      written = h .written;
-    }
+asked-skipped line a = inl (a, refl)
 
-pub so-far-word : (text rest line more bytes longer : List ℕ) (n w : ℕ) → 0 < length rest → FirstRun LineFeed rest line more → Answered line (Ok (Some w)) → longer ≡ bytes ++ spread (w ∷ []) → SoFar text rest n bytes → SoFar text more (n + 1) longer
+pub asked-word : (line : List ℕ) (w : ℕ) → Answered line (Ok (Some w)) → Asked (line ∷ []) (w ∷ [])
 unfolding Asked
-so-far-word text rest line more bytes longer n w l f a e h =
+asked-word line w a = inr (w, [], refl, a, refl)
+
+pub so-far-more : (text rest line more bytes longer ws : List ℕ) (n : ℕ) → 0 < length rest → FirstRun LineFeed rest line more → Asked (line ∷ []) ws → longer ≡ bytes ++ spread ws → SoFar text rest n bytes → SoFar text more (n + 1) longer
+so-far-more text rest line more bytes longer ws n l f a e h =
     let shorter = f .shorter l in
     let few = h .few in
     record {
       before = h .before ++ line ∷ [];
-      words = h .words ++ w ∷ [];
+      words = h .words ++ ws;
       cut = cut-more _ (h .before) rest line more l f (h .cut);
       counted = ap (λ k. k + 1) (h .counted) ∙ sym (length-push (h .before) line);
       few = omega arith;
-      asked = asked-append (h .before) (line ∷ []) (h .words) (w ∷ []) (h .asked) (inr (w, [], refl, a, refl));
-      written = e ∙ ap (λ bs. bs ++ spread (w ∷ [])) (h .written) ∙ sym (rw (append-nil (spread (h .words ++ w ∷ []))) at (spread-push (h .words) w []));
+      asked = asked-append (h .before) (line ∷ []) (h .words) ws (h .asked) a;
+      written = e ∙ ap (λ bs. bs ++ spread ws) (h .written) ∙ sym (spread-append (h .words) ws);
     }
 
 pub reached : (text rest line more bytes : List ℕ) (n : ℕ) → 0 < length rest → FirstRun LineFeed rest line more → SoFar text rest n bytes → Reached text line (n + 1)

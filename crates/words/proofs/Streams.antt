@@ -4,12 +4,12 @@ use mathlib.Core.List.{List, [], _∷_, _++_}
 use native.Mathlib.Omega.{arith}
 use Prim.Native.Nat.{ℕ, _-_, _/_, _%_, _^_, _<_, _≤_}
 use lib.ListN.{length, getD, drop, take}
-use Rattle.std.proofs.shelf.Lists.{take-rest}
+use Rattle.std.proofs.shelf.Lists.{append-assoc, take-rest}
 use Rattle.words.specs.Streams.{joined, spread}
 
-pub spread-push : (ws : List ℕ) (w : ℕ) (rest : List ℕ) → spread (ws ++ (w ∷ [])) ++ rest ≡ spread ws ++ (spread (w ∷ []) ++ rest)
-spread-push [] w rest = refl
-spread-push (x ∷ ws) w rest = ap (λ l. (x / 2 ^ 24) ∷ (x / 2 ^ 16 % 2 ^ 8) ∷ (x / 2 ^ 8 % 2 ^ 8) ∷ (x % 2 ^ 8) ∷ l) (spread-push ws w rest)
+pub spread-append : (ws vs : List ℕ) → spread (ws ++ vs) ≡ spread ws ++ spread vs
+spread-append [] vs = refl
+spread-append (x ∷ ws) vs = ap (λ l. (x / 2 ^ 24) ∷ (x / 2 ^ 16 % 2 ^ 8) ∷ (x / 2 ^ 8 % 2 ^ 8) ∷ (x % 2 ^ 8) ∷ l) (spread-append ws vs)
 
 spread-joined : (a b c d : ℕ) (rest : List ℕ) → a < 2 ^ 8 → b < 2 ^ 8 → c < 2 ^ 8 → d < 2 ^ 8 → spread (joined a b c d ∷ []) ++ rest ≡ a ∷ b ∷ c ∷ d ∷ rest
 spread-joined a b c d rest ha hb hc hd =
@@ -29,7 +29,7 @@ front (a ∷ b ∷ c ∷ d ∷ rest) h p q r t = spread-joined a b c d rest p q 
 -- one word more, and what is left of the stream after it
 pub spread-more : (ws vs xs all : List ℕ) (w : ℕ) → 4 ≤ length xs → getD xs 0 0 < 2 ^ 8 → getD xs 1 0 < 2 ^ 8 → getD xs 2 0 < 2 ^ 8 → getD xs 3 0 < 2 ^ 8 → all ≡ spread ws ++ xs → w ≡ joined (getD xs 0 0) (getD xs 1 0) (getD xs 2 0) (getD xs 3 0) → vs ≡ ws ++ (w ∷ []) → all ≡ spread vs ++ take (length xs - 4) (drop 4 xs)
 spread-more ws vs xs all w h p q r t e i k =
-    rw (take-rest xs 4) (rw k (rw (spread-push ws w (drop 4 xs)) (rw i (rw (front xs h p q r t) e))))
+    rw (take-rest xs 4) (rw k (rw (spread-append ws (w ∷ [])) (rw (append-assoc (spread ws) (spread (w ∷ [])) (drop 4 xs)) (rw i (rw (front xs h p q r t) e)))))
 
 one-word-of-bytes : (v w : ℕ) → v / 2 ^ 24 ≡ w / 2 ^ 24 → v / 2 ^ 16 % 2 ^ 8 ≡ w / 2 ^ 16 % 2 ^ 8 → v / 2 ^ 8 % 2 ^ 8 ≡ w / 2 ^ 8 % 2 ^ 8 → v % 2 ^ 8 ≡ w % 2 ^ 8 → v ≡ w
 one-word-of-bytes v w a b c d = omega arith

@@ -1,7 +1,10 @@
 -- Each line is skipped or adds its word, unless memory is wanting for it.
 use borrow.Author.Needs.{needs}
+use mathlib.Core.Path.{sym}
+use mathlib.Core.List.{[], _∷_}
+use Rattle.std.proofs.shelf.Lists.{append-nil}
 use Rattle.std.proofs.shelf.Results.{err-from-errBy}
-use Rattle.composing.proofs.Progress.{reached, so-far-none, so-far-skip, so-far-word, so-far-all}
+use Rattle.composing.proofs.Progress.{asked-skipped, asked-word, reached, so-far-all, so-far-more, so-far-none}
 use Rattle.composing.proofs.compose.compose_lines.Needs as need
 
 pub loop-rest-holds : need.loop-rest-holds
@@ -9,10 +12,11 @@ loop-rest-holds c = so-far-none _ _ (c .new-bytes .ensures .items)
 
 pub loop-rest-again-in-Continue-put : need.loop-rest-again-in-Continue-put
 loop-rest-again-in-Continue-put c =
-    so-far-word _ _ _ _ _ _ _ (c .in-Ok-Some .word) (search needs) (c .first-run .ensures) (search needs) (c .in-Continue-put .ensures tt) (c .loop-rest .inv)
+    so-far-more _ _ _ _ _ _ (c .in-Ok-Some .word ∷ []) _ (search needs) (c .first-run .ensures) (asked-word _ _ (search needs)) (c .in-Continue-put .ensures tt) (c .loop-rest .inv)
 
 pub loop-rest-again : need.loop-rest-again
-loop-rest-again c = so-far-skip _ _ _ _ _ _ (search needs) (c .first-run .ensures) (search needs) (c .loop-rest .inv)
+loop-rest-again c =
+    so-far-more _ _ _ _ _ _ [] _ (search needs) (c .first-run .ensures) (asked-skipped _ (search needs)) (sym (append-nil _)) (c .loop-rest .inv)
 
 pub returns : need.returns
 returns c = so-far-all _ _ _ _ (search needs) (c .loop-rest .inv)
