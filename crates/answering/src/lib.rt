@@ -1,4 +1,6 @@
 // What is replied to questions about material laws.
+#![tactic(auto)]
+
 mod answer;
 mod pairing;
 pub mod reply;

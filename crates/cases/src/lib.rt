@@ -1,4 +1,6 @@
 // Examples of bars, entry words, listings and lines, run against what the formats say.
+#![tactic(auto)]
+
 #[cfg(test)]
 mod bars;
 #[cfg(test)]

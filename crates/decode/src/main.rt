@@ -1,4 +1,6 @@
 // Lists the entry words of standard input, a line for each.
+#![tactic(auto)]
+
 use listing::list;
 use std::io;
 use std::io::{Read, Write};

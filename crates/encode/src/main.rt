@@ -1,4 +1,6 @@
 // Writes the entry words that the lines of standard input ask for.
+#![tactic(auto)]
+
 use anyhow::anyhow;
 use composing::compose::{Failure, compose};
 use std::io;

@@ -1,3 +1,5 @@
 // Whole-number division, rounded down and up, exact on both sides of zero.
+#![tactic(auto)]
+
 pub mod division;
 pub mod positive;

@@ -1,4 +1,6 @@
 // Worked figures of the laws.
+#![tactic(auto)]
+
 ghost use Rattle.std.specs.Prelude.{◌≡◌, pos, negsuc, Ok};
 ghost use Rattle.figures.specs.Figures.{Worked};
 

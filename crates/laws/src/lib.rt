@@ -1,4 +1,6 @@
 // Material laws: the exact stress of concrete and steel at a strain ratio, answered by its floor and its ceiling.
+#![tactic(auto)]
+
 pub mod asking;
 pub mod block;
 pub mod concrete;

@@ -1,4 +1,6 @@
 // The text that lists a stream of entry words, a line for each word.
+#![tactic(auto)]
+
 ghost use Rattle.std.specs.Prelude.{◌≡◌, IfOk, string_bytes};
 ghost use Rattle.listing.specs.Listing.{Line, Lines, Listed, refused_line};
 

@@ -1,4 +1,6 @@
 // Replies to the lines of standard input, each of which asks a law for its stress.
+#![tactic(auto)]
+
 use answering::replying::reply;
 use std::io;
 use std::io::{Read, Write};

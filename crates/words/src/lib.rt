@@ -1,4 +1,6 @@
 // Entry words: what a 32-bit word asks of a sheet, read and written, and the stream of bytes that carries words.
+#![tactic(auto)]
+
 pub mod entry;
 pub mod fault;
 pub mod kind;
