@@ -7,6 +7,6 @@ pub returns : goal.returns
 returns c =
     let l : length c.args.text.now < 2 ^ 64 = search rules in
     record {
-      composed = c.compose-lines.ensures;
-      gives_back = λ stream readable listed. given_back vec_items _ stream c.compose-lines.result l c.compose-lines.ensures readable listed;
+      composed = c.compose_lines.ensures;
+      gives_back = λ stream readable listed. given_back vec_items _ stream c.compose_lines.result l c.compose_lines.ensures readable listed;
     }

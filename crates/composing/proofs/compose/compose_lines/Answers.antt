@@ -10,11 +10,11 @@ loop-rest-init c = so_far_none _ _ c.new-bytes.ensures.items
 
 pub loop-rest-preserved-in_ok-put : goal.loop-rest-preserved-in_ok-put
 loop-rest-preserved-in_ok-put c =
-    so_far_more _ _ _ _ _ _ (c.in-Ok-Some.word ∷ []) _ (search rules) c.first-run.ensures (asked_word _ _ (search rules)) c.in_ok-put.ensures c.loop-rest.invariant
+    so_far_more _ _ _ _ _ _ (c.in-Ok-Some.word ∷ []) _ (search rules) c.first_run.ensures (asked_word _ _ (search rules)) c.in_ok-put.ensures c.loop-rest.invariant
 
 pub loop-rest-preserved : goal.loop-rest-preserved
 loop-rest-preserved c =
-    so_far_more _ _ _ _ _ _ [] _ (search rules) c.first-run.ensures (asked_skipped _ (search rules)) (sym (append-nil _)) c.loop-rest.invariant
+    so_far_more _ _ _ _ _ _ [] _ (search rules) c.first_run.ensures (asked_skipped _ (search rules)) (sym (append-nil _)) c.loop-rest.invariant
 
 pub returns : goal.returns
 returns c = so_far_all _ _ _ _ (search rules) c.loop-rest.invariant
@@ -22,4 +22,4 @@ returns c = so_far_all _ _ _ _ (search rules) c.loop-rest.invariant
 pub returns-in_err-put : goal.returns-in_err-put
 returns-in_err-put c =
     let p = err_from_is_err_and c.from_residual.result c.from_residual.ensures.1 in
-    rw (p.1, p.2) (_, _, reached _ _ _ _ _ _ (search rules) c.first-run.ensures c.loop-rest.invariant, (c.in-Ok-Some.word, search rules))
+    rw (p.1, p.2) (_, _, reached _ _ _ _ _ _ (search rules) c.first_run.ensures c.loop-rest.invariant, (c.in-Ok-Some.word, search rules))

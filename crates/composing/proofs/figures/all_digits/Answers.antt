@@ -5,8 +5,8 @@ use Rattle.std.specs.Str.{all_ascii_digits}
 use Rattle.composing.proofs.Readings.{digits_more, digits_stop}
 use Rattle.composing.proofs.figures.all_digits.Goals as goal
 
-pub returns-then-not-is-ascii-digit : goal.returns-then-not-is-ascii-digit
-returns-then-not-is-ascii-digit c = sym (digits_stop c.args.piece.now c.loop-byte.byte-index (search rules) (search rules)) ∙ c.loop-byte.invariant
+pub returns-then-not-is_ascii_digit : goal.returns-then-not-is_ascii_digit
+returns-then-not-is_ascii_digit c = sym (digits_stop c.args.piece.now c.loop-byte.byte-index (search rules) (search rules)) ∙ c.loop-byte.invariant
 
 pub loop-byte-preserved : goal.loop-byte-preserved
 loop-byte-preserved c = digits_more c.args.piece.now c.loop-byte.byte-index (search rules) (search rules) ∙ c.loop-byte.invariant
