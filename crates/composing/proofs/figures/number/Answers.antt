@@ -4,8 +4,8 @@ use Rattle.composing.specs.Figures.{Figures}
 use Rattle.composing.proofs.Readings.{figures_utf8, number_read}
 use Rattle.composing.proofs.figures.number.Goals as goal
 
-pub returns-in-default : goal.returns-in-default
-returns-in-default c = λ z f. c.in-default.ensures.cases.0 (figures_utf8 _ z f)
+pub returns-in_default : goal.returns-in_default
+returns-in_default c = λ z f. c.in_default.ensures.cases.0 (figures_utf8 _ z f)
 
 pub returns : goal.returns
 returns c =

@@ -9,5 +9,5 @@ pub loop-bar-preserved : goal.loop-bar-preserved
 loop-bar-preserved g c =
     λ plain.
     let before = c.loop-bar.invariant plain in
-    let now = c.in_ok-write.ensures.shows before.plain refl in
+    let now = c.in_ok-write.ensures.writes before.plain refl in
     has_written_of_eq _ _ _ _ _ (numbers_more bars c.table-bar-items.result.now c.loop-bar.bar-index _ c.table-bar-items.ensures c.loop-bar-test.true) (has_written_append _ _ _ _ _ _ before now)
