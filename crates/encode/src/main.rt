@@ -1,17 +1,18 @@
 // Writes the entry words that the lines of standard input ask for.
 #![tactic(auto)]
 
-use anyhow::anyhow;
 use composing::compose::{Failure, compose};
 use std::io;
 use std::io::{Read, Write};
+use std::process::ExitCode;
 
-fn main(rt: HostRuntime) -> anyhow::Result<()> {
+// A refused text ends the program with status 1, and standard error says no more than why.
+fn main(rt: HostRuntime) -> io::Result<ExitCode> {
     match encode(&rt)? {
-        Ok(()) => Ok(()),
+        Ok(()) => Ok(ExitCode::SUCCESS),
         Err(failure) => {
             eprintln!(rt; "encode: {failure}")?;
-            Err(anyhow!("no words were written"))
+            Ok(ExitCode::FAILURE)
         }
     }
 }
