@@ -3,7 +3,7 @@
 
   tools/bench_stress.py
 
-Build the program first: rt check stress. A line is read, answered and written; those of the column `unreadable` ask
+Build the program first: `rt run < stdin` in crates/stress. A line is read, answered and written; those of the column `unreadable` ask
 nothing, so what a law's answer costs is less than its column's excess over that one. Memory should about double from row to row,
 and time a line stay as it is.
 """

@@ -3,7 +3,7 @@
 
   tools/bench_words.py
 
-Build the programs first: rt check decode encode. Time and memory should about double from row to row.
+Build the programs first: `rt run < stdin` in crates/decode and in crates/encode. Time and memory should about double from row to row.
 """
 import os
 import random

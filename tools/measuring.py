@@ -2,13 +2,13 @@
 import os
 import subprocess
 
-BIN = os.path.join(os.path.dirname(os.path.abspath(__file__)), '..', 'target', 'bin')
+from built import program as built
 
 
 def measure(program, source, target):
     """Seconds of processor time and megabytes of memory at most of `program < source > target`."""
     with open(source, 'rb') as i, open(target, 'wb') as o:
-        child = subprocess.Popen([os.path.join(BIN, program)], stdin=i, stdout=o)
+        child = subprocess.Popen([built(program)], stdin=i, stdout=o)
         _, status, usage = os.wait4(child.pid, 0)
     assert status == 0, program
     return usage.ru_utime + usage.ru_stime, usage.ru_maxrss / 1024

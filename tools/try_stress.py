@@ -4,19 +4,19 @@
   tools/try_stress.py [ROUNDS] [SEED]
   tools/try_stress.py - < TEXT
 
-Build the program first: rt check stress. Each round makes a text of lines: every law on both sides of each of its
+Build the program first: `rt run < stdin` in crates/stress. Each round makes a text of lines: every law on both sides of each of its
 edges, in compression and in tension, every refusal, lines that ask nothing, and blank ones; and checks each line of the
 output. With `-` it runs no program, and prints what should be printed for the text of standard input.
 """
 import math
-import os
 import random
 import re
 import subprocess
 import sys
 from fractions import Fraction
 
-BIN = os.path.join(os.path.dirname(os.path.abspath(__file__)), '..', 'target', 'bin')
+from built import program as built
+
 GREATEST_I64 = 2 ** 63 - 1
 
 
@@ -284,7 +284,7 @@ def every_edge():
 
 def compare(lines, ending):
     text = b'\n'.join(lines) + ending
-    run = subprocess.run([os.path.join(BIN, 'stress')], input=text, capture_output=True)
+    run = subprocess.run([built('stress')], input=text, capture_output=True)
     assert run.returncode == 0 and run.stderr == b'', run.stderr
     assert run.stdout == b'' or run.stdout.endswith(b'\n'), run.stdout[-40:]
     given = run.stdout.split(b'\n')[:-1]

@@ -3,17 +3,17 @@
 
   tools/try_words.py [ROUNDS] [SEED]
 
-Build the programs first: rt check decode encode. Each round makes a stream of random words, most of them readable, and
+Build the programs first: `rt run < stdin` in crates/decode and in crates/encode. Each round makes a stream of random words, most of them readable, and
 zero to three loose bytes, and checks the listing byte for byte; then that `encode` gives a readable stream back from its
 listing, with the indices and without, and refuses the listing of any other and writes nothing.
 """
-import os
 import random
 import struct
 import subprocess
 import sys
 
-BIN = os.path.join(os.path.dirname(os.path.abspath(__file__)), '..', 'target', 'bin')
+from built import program as built
+
 NUMBERS = [3, 4, 5, 6, 7, 8, 9, 10, 11, 14, 18]
 
 
@@ -49,7 +49,7 @@ def listing(stream):
 
 
 def run(program, data):
-    return subprocess.run([os.path.join(BIN, program)], input=data, capture_output=True)
+    return subprocess.run([built(program)], input=data, capture_output=True)
 
 
 def random_word(rand):
