@@ -5,7 +5,7 @@ use lib.Signed.{mag}
 use Rattle.std.specs.Str.Parse.{digits_value}
 use Rattle.std.specs.Int.{IsInRange}
 use Rattle.std.specs.Fmt.{signed_decimal}
-use Rattle.std.specs.List.{AllByRecursion as All}
+use Rattle.std.specs.List.{AllByRecursion}
 use Rattle.std.specs.Str.{all_ascii_digits}
 use Rattle.std.proofs.lemmas.Fmt.{decimal_is_IsNumeral, digits_decimal}
 use Rattle.std.proofs.lemmas.List.{append_assoc, append-nil, length-append}
@@ -130,14 +130,14 @@ shown_more : (n : Labelled) (ns : List Labelled) → shown_numbers (n ∷ ns) �
 shown_more n [] = sym (append-nil (shown_number n))
 shown_more n (m ∷ ms) = refl
 
-pieces_of_numbers : (a : List ℕ) (ns : List Labelled) → Piece a → All Writable ns → pieces (a ++ shown_numbers ns) ≡ a ∷ number_pieces ns
+pieces_of_numbers : (a : List ℕ) (ns : List Labelled) → Piece a → AllByRecursion Writable ns → pieces (a ++ shown_numbers ns) ≡ a ∷ number_pieces ns
 pieces_of_numbers a [] p w = rw (append-nil a) (piece_last a p)
 pieces_of_numbers a (n ∷ ns) p w =
     let v = signed_decimal n.value in
     let e : shown_numbers (n ∷ ns) ≡ 32 ∷ (n.label ++ (32 ∷ (v ++ shown_numbers ns))) = shown_more n ns ∙ ap (λ l. 32 ∷ l) (append_assoc n.label (32 ∷ v) (shown_numbers ns)) in
     rw e (piece_front a _ p ∙ ap (λ ps. a ∷ ps) (piece_front n.label _ w.0.label_piece ∙ ap (λ ps. n.label ∷ ps) (pieces_of_numbers v ns (piece_signed n.value w.0.bounded) w.1)))
 
-numbers_of_pieces : (ns : List Labelled) → All Writable ns → Numbers ns (number_pieces ns)
+numbers_of_pieces : (ns : List Labelled) → AllByRecursion Writable ns → Numbers ns (number_pieces ns)
 numbers_of_pieces [] w = refl
 numbers_of_pieces (n ∷ ns) w = (number_pieces ns, (signed_decimal n.value, refl, figures_signed n.value w.0.bounded), numbers_of_pieces ns w.1)
 
@@ -169,7 +169,7 @@ writable : (a : List ℕ) (z : ℤ) → free LineFeed a ≡ true → free Blank 
 writable a z p q l h = record { label_piece = literal a p q l; bounded = h }
 
 -- every number of an entry that has a word is such
-writable_numbers : (e : Entry) (w : ℕ) → Stands e w → All Writable (numbers_of e)
+writable_numbers : (e : Entry) (w : ℕ) → Stands e w → AllByRecursion Writable (numbers_of e)
 writable_numbers (Open fc fy) w h =
     (writable (codes "fc") fc refl refl (lit< tt) (mag_pos fc _ _ h.1 (omega arith)), (writable (codes "fy") fy refl refl (lit< tt) (mag_pos fy _ _ h.2 (omega arith)), tt))
 writable_numbers (Lay thickness width) w h =
@@ -198,7 +198,7 @@ answered_listed i w e l h =
     let f = first_of_decimal i l in
     rw p ((λ z. omega arith), (e, rw (digits_of_decimal i l) (spells_line e w h), h))
 
-free_numbers : (ns : List Labelled) → All Writable ns → free LineFeed (shown_numbers ns) ≡ true
+free_numbers : (ns : List Labelled) → AllByRecursion Writable ns → free LineFeed (shown_numbers ns) ≡ true
 free_numbers [] w = refl
 free_numbers (n ∷ ns) w =
     rw (shown_more n ns)
@@ -219,7 +219,7 @@ lines_listed i w e line rest text l h p q =
     ap lines_of (q ∙ ap (λ a. a ++ rest) p ∙ entry_line_lem i e rest) ∙ run_front LineFeed (listed_line i e) 10 rest (free_listed i w e l h) refl
 
 -- a listing without refusals asks for the words that it lists
-pub asked_listing : (i : ℕ) (ws text : List ℕ) → i + length ws ≤ 2 ^ 64 → All (λ w. (e : Entry) × Stands e w) ws → Lines i ws text → Asked (lines_of text) ws
+pub asked_listing : (i : ℕ) (ws text : List ℕ) → i + length ws ≤ 2 ^ 64 → AllByRecursion (λ w. (e : Entry) × Stands e w) ws → Lines i ws text → Asked (lines_of text) ws
 unfolding Asked runs
 asked_listing i [] text l r h = rw h refl
 asked_listing i (w ∷ ws) text l r h =
@@ -231,7 +231,7 @@ asked_listing i (w ∷ ws) text l r h =
     ]
 
 -- and has a byte at least for each of them
-pub long_listing : (i : ℕ) (ws text : List ℕ) → All (λ w. (e : Entry) × Stands e w) ws → Lines i ws text → length ws ≤ length text
+pub long_listing : (i : ℕ) (ws text : List ℕ) → AllByRecursion (λ w. (e : Entry) × Stands e w) ws → Lines i ws text → length ws ≤ length text
 long_listing i [] text r h = omega arith
 long_listing i (w ∷ ws) text r h =
     let some : 0 < length h.0 =

@@ -1,7 +1,7 @@
 -- What a word stands for, and what the reader and the writer answer.
 use Rattle.std.specs.Prelude.{◌≡◌, ℕ, ◌+◌, ◌-◌, ◌*◌, ◌/◌, ◌%◌, ◌^◌, ◌<◌, List, [], ℤ, pos, ◌-ℤ◌, Ok, Err, Result, ◌≢◌}
 use Rattle.section.specs.Bars.{Numbered}
-use Rattle.std.specs.List.{AllByRecursion as All}
+use Rattle.std.specs.List.{AllByRecursion}
 use Rattle.words.specs.Streams.{Cut}
 use Rattle.words.specs.declared.entry.Entry.{Entry}
 use Rattle.words.specs.declared.entry.Entry.TheVariants.{Open, Lay, Place, Lift, Axial, Moment, Solve}
@@ -63,7 +63,7 @@ pub record OneWord (e : Entry) (q : Result ℕ Fault) : Type 0 where
 pub record Readable (stream : List ℕ) : Type 0 where
   pub words : List ℕ
   pub whole : Cut stream words []
-  pub each : All (λ w. (e : Entry) × Stands e w) words
+  pub each : AllByRecursion (λ w. (e : Entry) × Stands e w) words
 
 -- the number z as a field below a limit, or that it is none
 abbrev pub Field : ℕ → ℤ → Result ℕ Fault → Type 0
