@@ -1,15 +1,14 @@
 -- A walk along the points of a mill curve: what is left of it is the rest of the curve.
-use Rattle.std.proofs.Common.{◌≡◌, ℕ, zero, suc, ◌+◌, ◌*◌, ◌<◌, ◌≤◌, Bool, true, false, cond, leb, List, [], ◌∷◌, map, length, get_or, drop, ℤ, pos, sym, refl, ap, ◌∙◌, subst, arith}
+use Rattle.std.proofs.Common.{◌≡◌, ℕ, ◌+◌, ◌*◌, ◌<◌, ◌≤◌, true, List, ◌∷◌, map, length, get_or, drop, ℤ, pos, subst}
 use Rattle.std.proofs.lemmas.List.{drop_more, drop_all}
-use Rattle.std.proofs.lemmas.Bool.Decides.{nat_tests}
-use Rattle.exact.specs.Fractions.{Fraction, over, fraction_le}
+use Rattle.exact.specs.Fractions.{Fraction, over}
 use Rattle.exact.specs.Rounding.{Rounded}
 use Rattle.laws.specs.declared.mill.point.Point.{Point}
-use Rattle.laws.specs.Curves.{at, line, beyond, curve}
+use Rattle.laws.specs.Curves.{beyond, curve}
 use Rattle.laws.specs.Meaning.{steps, in_steps}
-use Rattle.laws.specs.Rules.{reading, rises, in_limits, climbs, ruled}
-use Rattle.laws.specs.Owed.Bent.{first, Climbs, climbs_more, limited}
-use Rattle.laws.specs.Owed.Stepping.{rounded_psi}
+use Rattle.laws.specs.Rules.{reading, in_limits, climbs}
+use Rattle.laws.specs.Owed.Bent.{Climbs, climbs_more, limited}
+use Rattle.laws.proofs.Stepping.{rounded_psi}
 
 -- from `last` on, past which the ratio n / m is, the rest is the curve's
 pub record Ahead (ps : List Point) (n m : ℕ) (last : Point) (rest : List Point) : Type 0 where

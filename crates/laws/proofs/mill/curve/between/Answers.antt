@@ -1,6 +1,7 @@
 -- The line is a quotient of numbers that fit.
 use Rattle.std.proofs.Common.{arith}
-use Rattle.laws.specs.Owed.Straight.{leads, rounded_line}
+use Rattle.laws.specs.Owed.Straight.{leads}
+use Rattle.laws.proofs.Straight.{rounded_line}
 use Rattle.laws.proofs.mill.curve.between.Goals as goal
 
 pub returns : goal.returns

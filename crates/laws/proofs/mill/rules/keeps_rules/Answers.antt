@@ -1,5 +1,5 @@
 -- Where a reading does not rise to the next, none of the tests that follow matter.
-use Rattle.std.proofs.Common.{◌≡◌, Bool, true, false, ◌&&◌, pos, sym, ◌∙◌, rules}
+use Rattle.std.proofs.Common.{◌≡◌, Bool, false, ◌&&◌, pos, sym, ◌∙◌, rules}
 use Rattle.std.proofs.lemmas.List.{at_drop_more}
 use Rattle.laws.specs.declared.mill.reading.Reading.{Reading}
 use Rattle.laws.specs.Rules.{climbs}

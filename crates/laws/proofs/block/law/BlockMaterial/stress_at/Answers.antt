@@ -1,6 +1,6 @@
 -- The shape over the whole peak is the block's stress.
 use Rattle.exact.specs.Fractions.{over}
-use Rattle.laws.specs.Owed.Peaks.{block_is}
+use Rattle.laws.proofs.Peaks.{block_is}
 use Rattle.laws.proofs.block.law.BlockMaterial.stress_at.Goals as goal
 
 pub returns : goal.returns

@@ -1,7 +1,7 @@
 -- The walk by magnitudes, with the sign of the ratio.
 use Rattle.std.proofs.Common.{◌≡◌, ℕ, cond, List, [], ◌∷◌, take, ℤ, pos, neg_ℤ, nat_abs, ap, ◌∙◌, subst, arith, w64, SFits, to_z, of_z, rules}
 use borrow.Author.Differences.{ints}
-use lib.Signed.{le_z}
+use Rattle.std.specs.Prelude.{int_le}
 use Rattle.std.proofs.lemmas.Int.{to_z-of_z}
 use Rattle.exact.specs.Fractions.{over}
 use Rattle.exact.specs.Ranges.{Within}
@@ -11,7 +11,7 @@ use Rattle.laws.specs.declared.mill.point.Point.{Point}
 use Rattle.laws.specs.Curves.{curve}
 use Rattle.laws.specs.Meaning.{in_steps, countable}
 use Rattle.laws.specs.Mills.{points}
-use Rattle.laws.specs.Owed.Milled.{curve_small, mill_is}
+use Rattle.laws.proofs.Milled.{curve_small, mill_is}
 use Rattle.laws.proofs.mill.law.MillMaterial.stress_at.Goals as goal
 
 passed : {z : ℤ} → Within countable z → Within countable (to_z w64 (of_z w64 z))
@@ -22,7 +22,7 @@ walked : (m : Mill) (x y : ℕ) {ps : List Point} {r : ℤ × ℤ} → ps ≡ m.
 walked m x y {ps} {r} e w = subst (λ (ps : List Point). Rounded (in_steps (curve (take m.count ps) (over (pos x) (pos y)))) r) e w
 
 -- floor and ceiling as they are passed on
-signed : (z : ℤ) {a b x y : ℤ} {r : ℤ × ℤ} → r ≡ cond (le_z (pos 0) z) (x, y) (neg_ℤ y, neg_ℤ x) → x ≡ a → y ≡ b → r ≡ cond (le_z (pos 0) z) (a, b) (neg_ℤ b, neg_ℤ a)
+signed : (z : ℤ) {a b x y : ℤ} {r : ℤ × ℤ} → r ≡ cond (int_le (pos 0) z) (x, y) (neg_ℤ y, neg_ℤ x) → x ≡ a → y ≡ b → r ≡ cond (int_le (pos 0) z) (a, b) (neg_ℤ b, neg_ℤ a)
 signed z e f g = cc
 
 pub with_sign_of-requires : goal.with_sign_of-requires

@@ -1,7 +1,7 @@
 -- The shape over the whole peak is the trapezoid's stress.
 use Rattle.std.proofs.Common.{arith}
 use Rattle.exact.specs.Fractions.{over}
-use Rattle.laws.specs.Owed.Peaks.{trapezoid_is}
+use Rattle.laws.proofs.Peaks.{trapezoid_is}
 use Rattle.laws.proofs.trapezoid.law.TrapezoidMaterial.stress_at.Goals as goal
 
 pub returns : goal.returns

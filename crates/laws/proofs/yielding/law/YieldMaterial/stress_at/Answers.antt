@@ -1,7 +1,7 @@
 -- The held slope is the yield law's stress.
 use Rattle.std.proofs.Common.{arith}
 use Rattle.exact.specs.Fractions.{over}
-use Rattle.laws.specs.Owed.Slopes.{yield_is}
+use Rattle.laws.proofs.Slopes.{yield_is}
 use Rattle.laws.proofs.yielding.law.YieldMaterial.stress_at.Goals as goal
 
 pub returns : goal.returns
