@@ -1,6 +1,6 @@
 -- Floors and ceilings: they rise with the fraction, there is one of each, and Euclidean division by a positive number gives them.
 use Rattle.std.proofs.Common.{◌≡◌, ℕ, zero, suc, ◌+◌, ◌-◌, ◌*◌, ◌/◌, ◌%◌, ◌<◌, ◌≤◌, ℤ, pos, negsuc, ◌+ℤ◌, ◌-ℤ◌, ◌*ℤ◌, ◌≤ℤ◌, ◌<ℤ◌, refl, mod-lt, arith}
-use native.Mathlib.Nat.{div-add-mod}
+use Rattle.std.proofs.Math.Nat.{div-add-mod}
 use borrow.Author.Differences.{ints, up, down}
 use Rattle.std.specs.Int.{int_div_euclid, int_rem_euclid}
 use Rattle.exact.specs.Fractions.{Fraction, whole, part, over, Crossed≤, Crossed<, ◌≤F◌, ◌≈F◌}

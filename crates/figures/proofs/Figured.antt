@@ -1,6 +1,6 @@
 -- What a law answers at a ratio is the floor and the ceiling of its stress, which are computed at literals.
 use Rattle.std.proofs.Common.{◌≡◌, Bool, T, ℤ, pos, ◌+ℤ◌, ◌-ℤ◌, ◌*ℤ◌, neg_ℤ, Ok, Err, Result, sym, ap, subst}
-use lib.Signed.{le_z, lt_z, le_z_yes, lt_z_yes}
+use Rattle.std.specs.Int.Signed.{le_z, lt_z, le_z_yes, lt_z_yes}
 use Rattle.exact.specs.Fractions.{Fraction, Crossed≤, Crossed<, whole, over, fraction_le}
 use Rattle.exact.specs.Rounding.{Rounded}
 use Rattle.exact.proofs.Rounding.{rounded_one}

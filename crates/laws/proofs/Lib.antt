@@ -1,5 +1,10 @@
+pub mod Stepping
 pub mod Holding
 pub mod Asked
+pub mod Peaks
+pub mod Slopes
+pub mod Straight
 pub mod Walking
+pub mod Milled
 pub mod Reading
 pub mod Unique

@@ -1,13 +1,12 @@
 -- Readings that keep the rules are those of points, and these stand in eight fields.
-use Rattle.std.proofs.Common.{◌≡◌, ℕ, zero, suc, ◌-◌, ◌≤◌, true, List, [], ◌∷◌, map, length, get_or, take, ℤ, pos, negsuc, nat_abs, ◌≤ℤ◌, sym, refl, ap, subst, arith}
+use Rattle.std.proofs.Common.{◌≡◌, ℕ, zero, suc, ◌≤◌, true, List, [], ◌∷◌, map, length, get_or, take, ℤ, pos, negsuc, nat_abs, ◌≤ℤ◌, sym, refl, ap, subst, arith}
 use borrow.Author.Differences.{ints}
-use lib.ListN.{length-map, get_or-map}
+use Rattle.std.proofs.Math.ListN.{length-map, get_or-map}
 use Rattle.std.proofs.lemmas.Bool.Decides.{nat_tests}
 use Rattle.laws.specs.declared.mill.point.Point.{Point}
 use Rattle.laws.specs.declared.mill.reading.Reading.{Reading}
-use Rattle.laws.specs.Curves.{last, last_stress}
 use Rattle.laws.specs.Rules.{reading, in_limits, climbs, ruled}
-use Rattle.laws.specs.Bent.{first, limited, climbs_more}
+use Rattle.laws.specs.Owed.Bent.{first, limited, climbs_more}
 
 abbrev pub origin : Point
 origin = record { ratio = 0; stress = 0 }
@@ -71,12 +70,6 @@ eight (a ∷ b ∷ c ∷ d ∷ e ∷ f ∷ g ∷ []) h = refl
 eight (a ∷ b ∷ c ∷ d ∷ e ∷ f ∷ g ∷ i ∷ []) h = refl
 eight (a ∷ b ∷ c ∷ d ∷ e ∷ f ∷ g ∷ i ∷ j ∷ ps) h = absurd (omega arith)
 
--- only the origin is read as 0 at 0
-pub origin_read : (p : Point) → reading origin ≡ reading p → origin ≡ p
-origin_read p e = same (ap (λ (r : Reading). nat_abs r.ratio) e) (ap (λ (r : Reading). nat_abs r.stress) e) where
-  same : {x y : ℕ} → 0 ≡ x → 0 ≡ y → ◌≡◌ {A = Point} origin (record { ratio = x; stress = y })
-  same e f = cc
-
 -- p is the point read at a place
 abbrev pub ReadAt : List Reading → ℕ → Point → Type 0
 ReadAt rs i p = (q : Point) → in_limits (reading q) ≡ true → get_or rs i (record { ratio = pos 0; stress = pos 0 }) ≡ reading q → p ≡ q
@@ -107,15 +100,3 @@ module _ (a b c d e f g h : Point) where
 
   pub are_read : (rs : List Reading) → AreRead rs
   are_read rs k = let p = points_read rs k in subst AreRead (sym p.1) (points_are_read p.0) k
-
--- the last of the first n points
-last_taken : (n : ℕ) (a : Point) (xs : List Point) → n ≤ length xs → last a (take n xs) ≡ (get_or (a ∷ xs) n origin).stress
-last_taken zero a xs h = refl
-last_taken (suc n) a [] h = absurd (omega arith)
-last_taken (suc n) a (b ∷ xs) h = last_taken n b xs (omega arith)
-
-pub last_field : (n : ℕ) (a : Point) (xs : List Point) → ruled (map reading (take n (a ∷ xs))) ≡ true → n ≤ suc (length xs) → (get_or (a ∷ xs) (n - 1) origin).stress ≡ last_stress (take n (a ∷ xs))
-last_field zero a xs h l = absurd (grind (arith, nat_tests))
-last_field (suc n) a xs h l =
-    let e : suc n - 1 ≡ n = omega arith in
-    subst (λ (i : ℕ). (get_or (a ∷ xs) i origin).stress ≡ last a (take n xs)) (sym e) (sym (last_taken n a xs (omega arith)))

@@ -10,4 +10,4 @@ use Rattle.figures.proofs.mill.Goals as goal
 
 pub returns : goal.returns
 returns c = λ i j.
-    figure mill_stress measured (pos 1) (pos 1) worked.mill_one c.answer.ensures (one_curve _ measured (sym c.in-ok-mill.ensures.1)) (to_z-of_z w64 _ c.ranges.n ∙ i) (to_z-of_z w64 _ c.ranges.m ∙ j)
+    figure mill_stress measured (pos 1) (pos 1) worked.mill_one c.answer.ensures (one_curve _ measured (sym c.in_ok-mill.ensures.1)) (to_z-of_z w64 _ c.ranges.n ∙ i) (to_z-of_z w64 _ c.ranges.m ∙ j)

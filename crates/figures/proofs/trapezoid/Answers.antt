@@ -6,12 +6,12 @@ use Rattle.figures.proofs.Figured.{figure}
 use Rattle.figures.proofs.Proved.{worked}
 use Rattle.figures.proofs.trapezoid.Goals as goal
 
-pub returns-in-err-trapezoid : goal.returns-in-err-trapezoid
-returns-in-err-trapezoid c = absurd (c.in-err-trapezoid.ensures.0 4000 refl (lit≤ tt, lit≤ tt, refl))
+pub returns-in_err-trapezoid : goal.returns-in_err-trapezoid
+returns-in_err-trapezoid c = absurd (c.in_err-trapezoid.ensures.0 4000 refl (lit≤ tt, lit≤ tt, refl))
 
 pub returns : goal.returns
 returns c =
-    let psi : c.in-ok-trapezoid.trapezoid.strength.psi ≡ 4000 = search rules in
+    let psi : c.in_ok-trapezoid.trapezoid.strength.psi ≡ 4000 = search rules in
     let n = to_z-of_z w64 _ c.ranges.n in
     let m = to_z-of_z w64 _ c.ranges.m in
     record {

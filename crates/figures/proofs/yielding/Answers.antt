@@ -6,12 +6,12 @@ use Rattle.figures.proofs.Figured.{figure}
 use Rattle.figures.proofs.Proved.{worked}
 use Rattle.figures.proofs.yielding.Goals as goal
 
-pub returns-in-err-steel : goal.returns-in-err-steel
-returns-in-err-steel c = absurd (c.in-err-steel.ensures.0 60000 refl (lit≤ tt, lit≤ tt, refl))
+pub returns-in_err-steel : goal.returns-in_err-steel
+returns-in_err-steel c = absurd (c.in_err-steel.ensures.0 60000 refl (lit≤ tt, lit≤ tt, refl))
 
 pub returns : goal.returns
 returns c =
-    let psi : c.in-ok-steel.steel.strength.psi ≡ 60000 = search rules in
+    let psi : c.in_ok-steel.steel.strength.psi ≡ 60000 = search rules in
     let n = to_z-of_z w64 _ c.ranges.n in
     let m = to_z-of_z w64 _ c.ranges.m in
     record {

@@ -1,17 +1,13 @@
--- Stresses counted in steps: they keep their order, and whole ones stay whole.
-use Rattle.std.specs.Prelude.{◌≡◌, ℕ, ◌*◌, true, false, cond, ℤ, pos, ◌*ℤ◌, neg_ℤ, ◌≤ℤ◌, refl}
+-- Stresses counted in steps, rounded: the same stress alike, a whole one to itself, a quotient, a product, a step.
+use Rattle.std.specs.Prelude.{◌≡◌, ℕ, ◌*◌, true, false, cond, ℤ, pos, ◌*ℤ◌, ◌≤ℤ◌}
 use Rattle.std.proofs.Common.{arith, sym, subst}
 use Rattle.std.proofs.lemmas.Int.{ints}
-use Rattle.exact.specs.Fractions.{Fraction, whole, over, ◌≤F◌, ◌≈F◌, ◌*F◌, fraction_le}
+use Rattle.exact.specs.Fractions.{Fraction, whole, over, ◌≈F◌, ◌*F◌, fraction_le}
 use Rattle.exact.specs.Rounding.{IsFloor, IsCeiling, Rounded}
-use Rattle.exact.proofs.Represented as R
-use Rattle.exact.proofs.Order.{same_≤, whole_≤}
-use Rattle.exact.proofs.Arithmetic.{*_mono, times_over}
+use Rattle.exact.proofs.Arithmetic.{times_over}
 use Rattle.exact.proofs.Rounding.{rounded_same, rounded_whole}
 use Rattle.laws.specs.Meaning.{steps, in_steps}
-
-pub steps_mono : {p q : Fraction} → p ≤F q → in_steps p ≤F in_steps q
-steps_mono h = *_mono (whole_≤ (omega (arith, ints))) h
+use Rattle.laws.specs.Owed.Stepping.{steps_mono, steps_whole}
 
 steps_same : {p q : Fraction} → p ≈F q → in_steps p ≈F in_steps q
 steps_same h = (steps_mono h.0, steps_mono h.1)
@@ -19,15 +15,6 @@ steps_same h = (steps_mono h.0, steps_mono h.1)
 -- the same stress is rounded alike
 pub rounded_alike : {p q : Fraction} {r : ℤ × ℤ} → p ≈F q → Rounded (in_steps p) r → Rounded (in_steps q) r
 rounded_alike h w = rounded_same (steps_same h) w
-
--- steps of a whole number of psi with its sign turned
-pub steps_turned : (t : ℕ) → pos steps *ℤ neg_ℤ (pos t) ≡ neg_ℤ (pos (steps * t))
-steps_turned t = R.same (R.mul (R.k steps) (R.neg (R.k t))) (R.neg (R.k (steps * t))) (omega arith)
-
--- a whole number of psi
-pub steps_whole : (k : ℤ) → whole (pos steps *ℤ k) ≈F in_steps (whole k)
-unfolding ◌*F◌
-steps_whole k = (same_≤ refl refl, same_≤ refl refl)
 
 pub rounded_psi : (k : ℤ) → Rounded (in_steps (whole k)) (pos steps *ℤ k, pos steps *ℤ k)
 rounded_psi k = rounded_same (steps_whole k) (rounded_whole (pos steps *ℤ k))

@@ -1,5 +1,5 @@
--- The mill curve is a law, and is answered by the curve in compression with the sign of the ratio.
-use Rattle.std.specs.Prelude.{◌≡◌, ℕ, zero, suc, ◌*◌, Bool, true, false, cond, List, map, ℤ, pos, negsuc, neg_ℤ, ◌≤ℤ◌, int_le, unsigned_abs, refl}
+-- The mill curve's stress is that of the curve in compression, with the sign of the ratio.
+use Rattle.std.specs.Prelude.{◌≡◌, ℕ, zero, suc, Bool, true, false, cond, List, map, ℤ, pos, negsuc, neg_ℤ, ◌≤ℤ◌, int_le, unsigned_abs, refl}
 use Rattle.std.proofs.Common.{arith, sym, subst, ap, ◌∙◌}
 use Rattle.std.proofs.lemmas.Int.{ints}
 use Rattle.exact.specs.Fractions.{Fraction, whole, part, over, Crossed≤, Crossed<, ◌≤F◌, ◌<F◌, ◌≈F◌, ◌*F◌, minus}
@@ -10,16 +10,11 @@ use Rattle.exact.proofs.Order.{≤_trans, same_≤, by_fraction_le, over_from, w
 use Rattle.exact.proofs.Arithmetic.{minus_rounded}
 use Rattle.exact.proofs.Rounding.{floor_from, floor_to, ceiling_from, ceiling_to, rounded_same}
 use Rattle.laws.specs.declared.mill.point.Point.{Point}
-use Rattle.laws.specs.Curves.{curve, mill_stress, last_stress}
-use Rattle.laws.specs.Meaning.{steps, in_steps, farthest, countable, Means}
+use Rattle.laws.specs.Curves.{curve, mill_stress}
+use Rattle.laws.specs.Meaning.{steps, in_steps, farthest, countable}
 use Rattle.laws.specs.Rules.{reading, ruled}
-use Rattle.laws.specs.Bent.{curve_mono, curve_from, curve_to, last_small}
-use Rattle.laws.specs.Odd.{odd_means}
-use Rattle.laws.specs.Stepping.{steps_mono, steps_whole}
-
-pub mill_means : (ps : List Point) → ruled (map reading ps) ≡ true → Means (mill_stress ps) (neg_ℤ (pos (steps * last_stress ps))) (pos (steps * last_stress ps))
-unfolding mill_stress
-mill_means ps h = odd_means (curve ps) (last_stress ps) (curve_mono ps h) (curve_from ps h) (curve_to ps h) (last_small ps h)
+use Rattle.laws.specs.Owed.Bent.{curve_from, curve_to, last_small}
+use Rattle.laws.specs.Owed.Stepping.{steps_mono, steps_whole}
 
 -- what is rounded of the curve is no great number
 pub curve_small : (ps : List Point) (n m : ℕ) {r : ℤ × ℤ} → ruled (map reading ps) ≡ true → Rounded (in_steps (curve ps (over (pos n) (pos m)))) r → Within countable r.0 × Within countable r.1
