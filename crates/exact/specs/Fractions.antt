@@ -1,6 +1,7 @@
 -- Exact fractions: quotients of whole numbers, their order, their sums and products.
 use Rattle.std.specs.Prelude.{ℕ, zero, suc, ◌*◌, ◌<◌, Bool, cond, ℤ, pos, negsuc, ◌+ℤ◌, ◌*ℤ◌, neg_ℤ, ◌≤ℤ◌, ◌<ℤ◌, int_le}
-use Rattle.std.proofs.Common.{lit<, arith, mul-pos}
+use Rattle.std.proofs.Common.{lit<, mul-pos}
+use Rattle.std.proofs.Math.Nat.{zero-lt-suc}
 
 -- num / den
 pub record Fraction : Type 0 where
@@ -14,7 +15,7 @@ whole k = record { num = k; den = 1; positive = lit< tt }
 
 -- n / (d + 1)
 abbrev pub part : ℤ → ℕ → Fraction
-part n d = record { num = n; den = suc d; positive = omega arith }
+part n d = record { num = n; den = suc d; positive = zero-lt-suc d }
 
 -- n / m where m is positive; elsewhere there is no such quotient, and this is 0
 abbrev pub over : ℤ → ℤ → Fraction

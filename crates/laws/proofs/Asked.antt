@@ -7,7 +7,7 @@ use Rattle.exact.proofs.Order.{<_weak}
 use Rattle.laws.specs.declared.fault.Fault.{Fault}
 use Rattle.laws.specs.Asking.{Between, Rising, Alike}
 use Rattle.laws.specs.Meaning.{Means, Answerable, Answers}
-use Rattle.laws.specs.Stepping.{steps_mono, rounded_alike}
+use Rattle.laws.specs.Owed.Stepping.{steps_mono, rounded_alike}
 
 -- a ratio that is asked about is at most 1
 at_most_one : {n m : ℤ} → Answerable n m → over n m ≤F whole (pos 1)

@@ -8,7 +8,7 @@ use Rattle.exact.specs.Rounding.{IsFloor, IsCeiling, Rounded}
 use Rattle.exact.proofs.Order.{≤_trans, <_weak, by_fraction_le}
 use Rattle.exact.proofs.Rounding.{floor_from, floor_to, ceiling_from, ceiling_to}
 use Rattle.laws.specs.Meaning.{steps, in_steps}
-use Rattle.laws.specs.Stepping.{steps_mono, steps_whole, rounded_psi}
+use Rattle.laws.specs.Owed.Stepping.{steps_mono, steps_whole, rounded_psi}
 
 int_max_is : (a b : ℤ) → (b ≤ℤ a → int_max a b ≡ a) × (a ≤ℤ b → int_max a b ≡ b)
 int_max_is a b = (λ h. omega (arith, ints, clamps), λ h. omega (arith, ints, clamps))

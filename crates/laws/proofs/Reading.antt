@@ -7,7 +7,7 @@ use Rattle.laws.specs.declared.mill.point.Point.{Point}
 use Rattle.laws.specs.declared.mill.reading.Reading.{Reading}
 use Rattle.laws.specs.Curves.{last, last_stress}
 use Rattle.laws.specs.Rules.{reading, in_limits, climbs, ruled}
-use Rattle.laws.specs.Bent.{first, limited, climbs_more}
+use Rattle.laws.specs.Owed.Bent.{first, limited, climbs_more}
 
 abbrev pub origin : Point
 origin = record { ratio = 0; stress = 0 }

@@ -8,8 +8,8 @@ use Rattle.laws.specs.declared.mill.point.Point.{Point}
 use Rattle.laws.specs.Curves.{at, line, beyond, curve}
 use Rattle.laws.specs.Meaning.{steps, in_steps}
 use Rattle.laws.specs.Rules.{reading, rises, in_limits, climbs, ruled}
-use Rattle.laws.specs.Bent.{first, Climbs, climbs_more, limited}
-use Rattle.laws.specs.Stepping.{rounded_psi}
+use Rattle.laws.specs.Owed.Bent.{first, Climbs, climbs_more, limited}
+use Rattle.laws.specs.Owed.Stepping.{rounded_psi}
 
 pub some_points : (ps : List Point) → ruled (map reading ps) ≡ true → 0 < length ps
 some_points [] h = absurd (grind (arith, nat_tests))

@@ -7,11 +7,4 @@ pub mod Asking
 pub mod Curves
 pub mod Rules
 pub mod Mills
-pub mod Peaks
-pub mod Lawful
-pub mod Stepping
-pub mod Milled
-pub mod Bent
-pub mod Straight
-pub mod Odd
-pub mod Slopes
+pub mod Owed

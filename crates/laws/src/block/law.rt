@@ -4,9 +4,7 @@ ghost use Rattle.laws.specs.Making.{Made};
 ghost use Rattle.laws.specs.Meaning.{steps};
 ghost use Rattle.laws.specs.Strengths.{ConcreteGrade, peak_psi};
 ghost use Rattle.laws.specs.Stresses.{block_stress};
-ghost use Rattle.laws.specs.Peaks.{block_means, peak_small};
-ghost use Rattle.std.proofs.Common.{arith};
-ghost use Rattle.std.proofs.lemmas.Int.{ints};
+ghost use Rattle.laws.specs.Owed.Peaks.{block_means, peak_limit};
 
 use crate::block::Block;
 use crate::concrete::Concrete;
@@ -50,5 +48,5 @@ impl Material for Block {
 }
 
 impl Concrete for Block {
-    ghost limits = { λ s. (refl, let h = peak_small s.strength.psi s.strength.graded in omega (arith, ints)) };
+    ghost limits = { λ s. (refl, peak_limit s.strength.psi s.strength.graded) };
 }

@@ -4,9 +4,9 @@ ghost use Rattle.exact.specs.Ranges.{Within};
 ghost use Rattle.laws.specs.declared.mill.point.Point.{Point};
 ghost use Rattle.laws.specs.Curves.{last_stress, mill_stress};
 ghost use Rattle.laws.specs.Meaning.{countable, steps};
-ghost use Rattle.laws.specs.Mills.{MadeMill, points as points_of, points};
+ghost use Rattle.laws.specs.Mills.{MadeMill, points as points_of};
 ghost use Rattle.laws.specs.Rules.{in_limits, reading};
-ghost use Rattle.laws.specs.Milled.{mill_means};
+ghost use Rattle.laws.specs.Owed.Milled.{mill_means};
 
 use crate::fault::Fault;
 use crate::material::Material;
@@ -90,7 +90,7 @@ fn unsigned(number: i64) -> u32
 // A floor and a ceiling in compression as they are, or in tension with their sign turned.
 fn with_sign_of(n: i64, low: i64, high: i64) -> (i64, i64)
     requires { Within countable low × Within countable high }
-    ensures { result ≡ (if int_le (pos 0) n then low, high else neg_ℤ high, neg_ℤ low) }
+    ensures { result ≡ (if int_le (pos 0) n then (low, high) else (neg_ℤ high, neg_ℤ low)) }
 {
     if 0 <= n { (low, high) } else { (-high, -low) }
 }
@@ -102,7 +102,7 @@ impl Material for Mill {
 
     ghost highest = { λ m. pos (steps * last_stress (points_of m)) };
 
-    ghost means = { λ m. mill_means (points m) m.lawful };
+    ghost means = { λ m. mill_means (points_of m) m.lawful };
 
     fn stress_at(&self, ratio: Ratio) -> (i64, i64) {
         let magnitude = Magnitude {

@@ -4,9 +4,7 @@ ghost use Rattle.laws.specs.Making.{Made};
 ghost use Rattle.laws.specs.Meaning.{steps};
 ghost use Rattle.laws.specs.Strengths.{ConcreteGrade, peak_psi};
 ghost use Rattle.laws.specs.Stresses.{trapezoid_stress};
-ghost use Rattle.laws.specs.Peaks.{trapezoid_means, peak_small};
-ghost use Rattle.std.proofs.Common.{arith};
-ghost use Rattle.std.proofs.lemmas.Int.{ints};
+ghost use Rattle.laws.specs.Owed.Peaks.{trapezoid_means, peak_limit};
 
 use crate::concrete::Concrete;
 use crate::fault::Fault;
@@ -51,5 +49,5 @@ impl Material for Trapezoid {
 }
 
 impl Concrete for Trapezoid {
-    ghost limits = { λ s. (refl, let h = peak_small s.strength.psi s.strength.graded in omega (arith, ints)) };
+    ghost limits = { λ s. (refl, peak_limit s.strength.psi s.strength.graded) };
 }

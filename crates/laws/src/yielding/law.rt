@@ -4,7 +4,7 @@ ghost use Rattle.laws.specs.Making.{Made};
 ghost use Rattle.laws.specs.Meaning.{steps};
 ghost use Rattle.laws.specs.Strengths.{YieldGrade};
 ghost use Rattle.laws.specs.Stresses.{yield_stress};
-ghost use Rattle.laws.specs.Slopes.{yield_means};
+ghost use Rattle.laws.specs.Owed.Slopes.{yield_means};
 
 use crate::fault::Fault;
 use crate::material::Material;

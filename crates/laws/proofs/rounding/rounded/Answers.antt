@@ -2,7 +2,7 @@
 use Rattle.std.proofs.Common.{arith}
 use borrow.Author.Differences.{ints}
 use Rattle.laws.specs.Meaning.{steps}
-use Rattle.laws.specs.Stepping.{rounded_over}
+use Rattle.laws.specs.Owed.Stepping.{rounded_over}
 use Rattle.laws.proofs.rounding.rounded.Goals as goal
 
 pub returns : goal.returns

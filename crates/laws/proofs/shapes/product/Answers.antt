@@ -14,8 +14,8 @@ far t z f w = within_times {x = 4294967296} {y = greatest_axis} {a = pos t} {b =
 factors : (t : ℕ) (z : ℤ) → Fits w32 t → SFits w64 z → to_z w64 t *ℤ to_z w64 (of_z w64 z) ≡ pos t *ℤ z
 factors t z f g = let e : to_z w64 t ≡ pos t = omega (arith, ints) in simp (e, to_z-of_z)
 
-pub overflow-mul-result : goal.overflow-mul-result
-overflow-mul-result c = rw (factors c.args.times c.args.number c.ranges.times c.ranges.number) (within_fits (far _ _ c.ranges.times c.requires) (lit< tt))
+pub overflow_mul-result : goal.overflow_mul-result
+overflow_mul-result c = rw (factors c.args.times c.args.number c.ranges.times c.ranges.number) (within_fits (far _ _ c.ranges.times c.requires) (lit< tt))
 
 pub returns : goal.returns
 returns c =

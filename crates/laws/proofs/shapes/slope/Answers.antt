@@ -3,7 +3,7 @@ use Rattle.std.proofs.Common.{◌≡◌, ℤ, pos, ◌*ℤ◌, ap, ◌∙◌, ar
 use borrow.Author.Differences.{ints}
 use Rattle.std.proofs.lemmas.Int.{to_z-of_z}
 use Rattle.exact.proofs.Ranges.{within_fits}
-use Rattle.laws.specs.Stepping.{rounded_times}
+use Rattle.laws.specs.Owed.Stepping.{rounded_times}
 use Rattle.laws.proofs.shapes.slope.Goals as goal
 
 pub returns : goal.returns

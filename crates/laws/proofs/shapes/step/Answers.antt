@@ -2,7 +2,7 @@
 use Rattle.std.proofs.Common.{pos, sym, ◌∙◌, arith}
 use borrow.Author.Differences.{ints}
 use Rattle.exact.specs.Fractions.{over}
-use Rattle.laws.specs.Stepping.{step_full, step_none}
+use Rattle.laws.specs.Owed.Stepping.{step_full, step_none}
 use Rattle.laws.proofs.shapes.step.Goals as goal
 
 pub returns-then-reaches : goal.returns-then-reaches

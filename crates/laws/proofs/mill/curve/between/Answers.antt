@@ -4,7 +4,7 @@ use Rattle.laws.specs.declared.mill.point.Point.{Point}
 use Rattle.laws.specs.Meaning.{greatest_axis}
 use Rattle.laws.specs.declared.mill.curve.Magnitude.{Magnitude}
 use Rattle.laws.specs.Rules.{reading, rises, in_limits}
-use Rattle.laws.specs.Straight.{Leads, leads, rounded_line}
+use Rattle.laws.specs.Owed.Straight.{Leads, leads, rounded_line}
 use Rattle.laws.proofs.mill.curve.between.Goals as goal
 
 -- how great the denominator is, and it times either stress, and what the line rises
@@ -26,14 +26,14 @@ sizes a b n m hn one hm l =
 at : (a b : Point) (q : Magnitude) → rises (reading a) (reading b) ≡ true → in_limits (reading b) ≡ true → Sizes a b q.n q.m
 at a b q h g = sizes a b q.n q.m q.high q.from q.to (leads a b h g)
 
-pub overflow-mul-start : goal.overflow-mul-start
-overflow-mul-start c = let s = at c.args.a c.args.b c.args.ratio c.requires.rises c.requires.limits in omega arith
+pub overflow_mul-start : goal.overflow_mul-start
+overflow_mul-start c = let s = at c.args.a c.args.b c.args.ratio c.requires.rises c.requires.limits in omega arith
 
-pub overflow-add-start : goal.overflow-add-start
-overflow-add-start c = let s = at c.args.a c.args.b c.args.ratio c.requires.rises c.requires.limits in omega arith
+pub overflow_add-start : goal.overflow_add-start
+overflow_add-start c = let s = at c.args.a c.args.b c.args.ratio c.requires.rises c.requires.limits in omega arith
 
-pub rounded-ratio-requires : goal.rounded-ratio-requires
-rounded-ratio-requires c = let s = at c.args.a c.args.b c.args.ratio c.requires.rises c.requires.limits in record { some = s.some; small = (omega arith, omega arith) }
+pub rounded_ratio-requires : goal.rounded_ratio-requires
+rounded_ratio-requires c = let s = at c.args.a c.args.b c.args.ratio c.requires.rises c.requires.limits in record { some = s.some; small = (omega arith, omega arith) }
 
 pub returns : goal.returns
-returns c = rounded_line c.args.a c.args.b (leads c.args.a c.args.b c.requires.rises c.requires.limits) c.args.ratio.n c.args.ratio.m c.args.ratio.from c.requires.past c.rounded-ratio.ensures (omega arith) (omega arith)
+returns c = rounded_line c.args.a c.args.b (leads c.args.a c.args.b c.requires.rises c.requires.limits) c.args.ratio.n c.args.ratio.m c.args.ratio.from c.requires.past c.rounded_ratio.ensures (omega arith) (omega arith)

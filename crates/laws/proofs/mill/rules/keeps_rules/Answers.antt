@@ -28,4 +28,4 @@ loop-i-preserved c =
 pub returns : goal.returns
 returns c =
     let e = at_drop_all (climbs c.loop-i.last) c.args.readings.now c.loop-i.i (search rules) in
-    c.in-limits.ensures ∙ (sym e ∙ c.loop-i.invariant)
+    c.in_limits.ensures ∙ (sym e ∙ c.loop-i.invariant)

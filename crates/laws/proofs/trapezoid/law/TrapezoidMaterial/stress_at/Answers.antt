@@ -1,10 +1,10 @@
 -- The shape over the whole peak is the trapezoid's stress.
 use Rattle.std.proofs.Common.{arith}
 use Rattle.exact.specs.Fractions.{over}
-use Rattle.laws.specs.Peaks.{trapezoid_is}
+use Rattle.laws.specs.Owed.Peaks.{trapezoid_is}
 use Rattle.laws.proofs.trapezoid.law.TrapezoidMaterial.stress_at.Goals as goal
 
 pub returns : goal.returns
 returns c =
     let s = c.args.self.now.strength in
-    trapezoid_is s.psi s.graded (over c.args.ratio.n c.args.ratio.m) c.held-slope.ensures (omega arith) c.peak-peak.ensures
+    trapezoid_is s.psi s.graded (over c.args.ratio.n c.args.ratio.m) c.held_slope.ensures (omega arith) c.peak-peak.ensures

@@ -9,7 +9,7 @@ use Rattle.laws.specs.declared.mill.point.Point.{Point}
 use Rattle.laws.specs.Curves.{at, line, beyond, curve, last, last_stress}
 use Rattle.laws.specs.Meaning.{farthest}
 use Rattle.laws.specs.Rules.{greatest_ratio, reading, rises, in_limits, climbs, ruled}
-use Rattle.laws.specs.Straight.{Leads, leads, line_mono, line_from, line_to}
+use Rattle.laws.specs.Owed.Straight.{Leads, leads, line_mono, line_from, line_to}
 
 -- what the rules say of the first point, and of the rest
 pub record First (p : Point) (ps : List Point) : Type 0 where

@@ -5,7 +5,7 @@ use Rattle.std.proofs.lemmas.Int.{ints}
 use Rattle.exact.specs.Fractions.{Fraction, whole, fraction_le, ◌≤F◌}
 use Rattle.exact.proofs.Order.{≤_refl, ≤_trans, by_fraction_le, clash, whole_≤}
 use Rattle.laws.specs.Meaning.{steps, farthest, Means}
-use Rattle.laws.specs.Stepping.{steps_mono, steps_whole, steps_turned}
+use Rattle.laws.specs.Owed.Stepping.{steps_mono, steps_whole, steps_turned}
 
 -- a stress from -t to k psi
 pub law_means : {f : Fraction → Fraction} (t k : ℕ) → ((p q : Fraction) → q ≤F whole (pos 1) → p ≤F q → f p ≤F f q) → ((p : Fraction) → p ≤F whole (pos 1) → whole (neg_ℤ (pos t)) ≤F f p) → ((p : Fraction) → p ≤F whole (pos 1) → f p ≤F whole (pos k)) → t ≤ farthest → k ≤ farthest → Means f (neg_ℤ (pos (steps * t))) (pos (steps * k))

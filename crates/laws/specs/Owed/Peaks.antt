@@ -1,5 +1,5 @@
 -- The peak of concrete is a whole number of psi; the block and the trapezoid are laws, and are shapes over it.
-use Rattle.std.specs.Prelude.{◌≡◌, ℕ, ◌-◌, ◌*◌, ◌/◌, ◌≤◌, Bool, true, false, cond, ℤ, pos}
+use Rattle.std.specs.Prelude.{◌≡◌, ℕ, ◌-◌, ◌*◌, ◌/◌, ◌≤◌, Bool, true, false, cond, ℤ, pos, ◌≤ℤ◌}
 use Rattle.std.proofs.Common.{arith, mul-div_cancel, mul-le-mul_left, lit<, sym, subst, ap, ◌∙◌}
 use Rattle.std.proofs.Math.Nat.{div-add-mod}
 use Rattle.std.proofs.lemmas.Int.{ints}
@@ -12,8 +12,8 @@ use Rattle.exact.proofs.Limits.{held_mono, held_least, held_most, held_low, held
 use Rattle.laws.specs.Meaning.{steps, in_steps, strongest, Means}
 use Rattle.laws.specs.Strengths.{ConcreteGrade, peak_psi, beta}
 use Rattle.laws.specs.Stresses.{peak, block_stress, trapezoid_stress}
-use Rattle.laws.specs.Lawful.{compression_means, step_rises, step_from, step_to}
-use Rattle.laws.specs.Stepping.{rounded_alike}
+use Rattle.laws.specs.Owed.Lawful.{compression_means, step_rises, step_from, step_to}
+use Rattle.laws.specs.Owed.Stepping.{rounded_alike}
 
 -- t times twice a number, t being a hundredth of a
 twice : (a t : ℕ) → a ≡ t * 100 → (q : Fraction) → whole (pos (2 * t)) *F q ≈F over (pos a) (pos 100) *F (whole (pos 2) *F q)
@@ -56,6 +56,9 @@ module _ (fc : ℕ) (grade : ConcreteGrade fc) where
   -- in steps too it is at most that of the strongest concrete
   pub peak_small : steps * top ≤ steps * strongest
   peak_small = mul-le-mul_left steps (omega arith)
+
+  pub peak_limit : pos (steps * top) ≤ℤ pos (steps * strongest)
+  peak_limit = let h = peak_small in omega (arith, ints)
 
   -- the block
   abbrev edge : Fraction

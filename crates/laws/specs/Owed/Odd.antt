@@ -6,7 +6,7 @@ use Rattle.exact.specs.Fractions.{Fraction, whole, fraction_le, Crossed≤, ◌�
 use Rattle.exact.proofs.Order.{≤_trans, <_weak, clash, whole_≤, by_fraction_le}
 use Rattle.exact.proofs.Arithmetic.{minus_mono}
 use Rattle.laws.specs.Meaning.{steps, farthest, Means}
-use Rattle.laws.specs.Lawful.{law_means}
+use Rattle.laws.specs.Owed.Lawful.{law_means}
 
 abbrev none : Fraction
 none = whole (pos 0)

@@ -15,7 +15,7 @@ use Rattle.laws.specs.declared.mill.point.Point.{Point}
 use Rattle.laws.specs.Curves.{at, line}
 use Rattle.laws.specs.Meaning.{farthest, in_steps}
 use Rattle.laws.specs.Rules.{greatest_ratio, reading, rises, in_limits}
-use Rattle.laws.specs.Stepping.{rounded_alike}
+use Rattle.laws.specs.Owed.Stepping.{rounded_alike}
 
 -- b comes after a, and is in its limits
 pub record Leads (a b : Point) : Type 0 where

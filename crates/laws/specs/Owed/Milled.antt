@@ -13,9 +13,9 @@ use Rattle.laws.specs.declared.mill.point.Point.{Point}
 use Rattle.laws.specs.Curves.{curve, mill_stress, last_stress}
 use Rattle.laws.specs.Meaning.{steps, in_steps, farthest, countable, Means}
 use Rattle.laws.specs.Rules.{reading, ruled}
-use Rattle.laws.specs.Bent.{curve_mono, curve_from, curve_to, last_small}
-use Rattle.laws.specs.Odd.{odd_means}
-use Rattle.laws.specs.Stepping.{steps_mono, steps_whole}
+use Rattle.laws.specs.Owed.Bent.{curve_mono, curve_from, curve_to, last_small}
+use Rattle.laws.specs.Owed.Odd.{odd_means}
+use Rattle.laws.specs.Owed.Stepping.{steps_mono, steps_whole}
 
 pub mill_means : (ps : List Point) → ruled (map reading ps) ≡ true → Means (mill_stress ps) (neg_ℤ (pos (steps * last_stress ps))) (pos (steps * last_stress ps))
 unfolding mill_stress

@@ -11,7 +11,7 @@ use Rattle.exact.proofs.Order.{whole_≤}
 use Rattle.laws.specs.Meaning.{steps, in_steps, Means}
 use Rattle.laws.specs.Strengths.{YieldGrade}
 use Rattle.laws.specs.Stresses.{yield_stress}
-use Rattle.laws.specs.Lawful.{law_means}
+use Rattle.laws.specs.Owed.Lawful.{law_means}
 
 module _ (fy : ℕ) where
   abbrev low : Fraction
