@@ -9,9 +9,6 @@ use Rattle.answering.specs.Replies.{Lines, Printed, RepliedAll}
 abbrev pub Ahead : List ℕ → List ℕ → List ℕ → Type 0
 Ahead text rest replies = (t : List ℕ) → RepliedAll rest t → RepliedAll text (replies ++ t)
 
-pub ahead_none : (text replies : List ℕ) → replies ≡ [] → Ahead text text replies
-ahead_none text replies e t h = rw e h
-
 pub ahead_more : (text rest line more replies longer first piece : List ℕ) → 0 < length rest → FirstRun LineFeed rest line more → Printed line first → piece ≡ first → longer ≡ replies ++ piece → Ahead text rest replies → Ahead text more longer
 unfolding Lines
 ahead_more text rest line more replies longer first piece l f r p e h t m =

@@ -1,5 +1,5 @@
 -- A law that is made is asked, and one that is not made is refused.
-use Rattle.std.proofs.Common.{◌≡◌, ℕ, List, [], ◌∷◌, length, get_or, ℤ, Ok, Err, Result, arith, MatchResult}
+use Rattle.std.proofs.Common.{◌≡◌, ℕ, List, ℤ, Ok, Err, Result, MatchResult}
 use Rattle.exact.specs.Fractions.{Fraction}
 use Rattle.laws.specs.declared.fault.Fault.{Fault}
 use Rattle.laws.specs.declared.mill.Mill.{Mill}
@@ -19,9 +19,3 @@ of_strength Grade psi_of stress given n m (Err e) r h a = ungraded h.0 (e, a, h.
 pub of_readings : (rs : List Reading) (n m : ℤ) (law : Result Mill Fault) (r : Result (ℤ × ℤ) Fault) → MadeMill rs law → MatchResult law (λ l. Answers (mill_stress (points l)) n m r) (λ e. r ≡ Err e) → OfReadings rs n m r
 of_readings rs n m (Ok l) r h a = keeping (points l) h.1 h.0 a
 of_readings rs n m (Err e) r h a = breaking h.0 (e, a, h.1)
-
--- the only number is the first
-pub only : (zs : List ℤ) (z : ℤ) → length zs ≡ 1 → z ≡ get_or zs 0 z → zs ≡ z ∷ []
-only [] z l e = absurd (omega arith)
-only (y ∷ []) z l e = cc
-only (y ∷ x ∷ zs) z l e = absurd (omega arith)

@@ -10,4 +10,4 @@ loop-z-init c = leading_none _ _ c.new-numbers.ensures.items
 pub loop-z-preserved : goal.loop-z-preserved
 loop-z-preserved c =
     let fits : SFits w64 c.in-Some.z = search rules in
-    leading_more _ _ _ _ _ _ c.loop-z.invariant c.in-Some.ensures (simp to_z-of_z at c.in-ok-push.ensures.items)
+    leading_more _ _ _ _ _ _ c.loop-z.invariant c.in-Some.ensures (simp to_z-of_z at c.in_ok-push.ensures.items)

@@ -7,13 +7,13 @@ use Rattle.questions.proofs.question.question_asked.Goals as goal
 
 pub returns-then-not-takes : goal.returns-then-not-takes
 returns-then-not-takes c = λ law zs n m asks.
-    let name : pieces c.args.line.now ≡ name_of c.in-Some-law-named.law ∷ pieces c.in-Some.rest.now = search rules in
-    let read = c.in-ok-numbers.ensures in
+    let name : pieces c.args.line.now ≡ name_of c.in-Some-law_named.law ∷ pieces c.in-Some.rest.now = search rules in
+    let read = c.in_ok-numbers.ensures in
     let takes = (asked_read _ _ _ _ _ name read.0 read.1 law zs n m asks).0 in
     search rules
 
 pub returns-in-None : goal.returns-in-None
 returns-in-None c = λ law zs n m asks.
-    let name : pieces c.args.line.now ≡ name_of c.in-Some-law-named.law ∷ pieces c.in-Some.rest.now = search rules in
-    let read = c.in-ok-numbers.ensures in
+    let name : pieces c.args.line.now ≡ name_of c.in-Some-law_named.law ∷ pieces c.in-Some.rest.now = search rules in
+    let read = c.in_ok-numbers.ensures in
     c.in-None.ensures n m (asked_read _ _ _ _ _ name read.0 read.1 law zs n m asks).1

@@ -3,4 +3,4 @@ use Rattle.text.proofs.Readings.{counted_digits}
 use Rattle.text.proofs.figures.all_digits.Goals as goal
 
 pub returns : goal.returns
-returns c = counted_digits _ _ c.leading-digits.ensures
+returns c = counted_digits _ _ c.leading_digits.ensures

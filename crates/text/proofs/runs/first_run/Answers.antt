@@ -6,9 +6,9 @@ use Rattle.text.proofs.runs.first_run.Goals as goal
 
 pub returns-in-empty : goal.returns-in-empty
 returns-in-empty c =
-    let e = nil_from_length c.split-at.result.1.now (search rules) in
-    first_run c.args.separator c.args.bytes.now _ c.split-at.result.1.now _ c.length-before.result c.length-before.ensures c.split-at.ensures.front c.split-at.ensures.back (e ∙ ap (drop 1) (sym e))
+    let e = nil_from_length c.split_at.result.1.now (search rules) in
+    first_run c.args.separator c.args.bytes.now _ c.split_at.result.1.now _ c.length_before.result c.length_before.ensures c.split_at.ensures.front c.split_at.ensures.back (e ∙ ap (drop 1) (sym e))
 
 pub returns-in-len1-up : goal.returns-in-len1-up
 returns-in-len1-up c =
-    first_run c.args.separator c.args.bytes.now _ c.split-at.result.1.now _ c.length-before.result c.length-before.ensures c.split-at.ensures.front c.split-at.ensures.back (take_rest c.split-at.result.1.now 1)
+    first_run c.args.separator c.args.bytes.now _ c.split_at.result.1.now _ c.length_before.result c.length_before.ensures c.split_at.ensures.front c.split_at.ensures.back (take_rest c.split_at.result.1.now 1)
