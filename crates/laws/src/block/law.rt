@@ -14,6 +14,7 @@ use crate::ratio::Ratio;
 use crate::rounding::in_steps;
 use crate::shapes::step;
 use crate::strength::ConcreteStrength;
+use exact::bounds::Bounds;
 
 impl Block {
     // The block of the strength f'c, or the fault 1.
@@ -34,7 +35,7 @@ impl Material for Block {
 
     ghost means = { λ s. block_means s.strength.psi s.strength.graded };
 
-    fn stress_at(&self, ratio: Ratio) -> (i64, i64) {
+    fn stress_at(&self, ratio: Ratio) -> Bounds {
         step(self.strength.block_edge(), self.strength.peak(), ratio)
     }
 

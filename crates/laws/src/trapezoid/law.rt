@@ -14,6 +14,7 @@ use crate::rounding::in_steps;
 use crate::shapes::held_slope;
 use crate::strength::ConcreteStrength;
 use crate::trapezoid::Trapezoid;
+use exact::bounds::Bounds;
 
 impl Trapezoid {
     // The trapezoid of the strength f'c, or the fault 1.
@@ -34,7 +35,7 @@ impl Material for Trapezoid {
 
     ghost means = { λ s. trapezoid_means s.strength.psi s.strength.graded };
 
-    fn stress_at(&self, ratio: Ratio) -> (i64, i64) {
+    fn stress_at(&self, ratio: Ratio) -> Bounds {
         let peak = self.strength.peak();
         held_slope(2 * peak, 0, peak, ratio)
     }

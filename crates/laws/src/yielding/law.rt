@@ -13,6 +13,7 @@ use crate::rounding::in_steps;
 use crate::shapes::held_slope;
 use crate::strength::YieldStrength;
 use crate::yielding::Yield;
+use exact::bounds::Bounds;
 
 // the elastic stress of steel at the crushing strain of concrete, 29,000,000 times 0.003
 const ELASTIC_PSI: u32 = 87_000;
@@ -36,7 +37,7 @@ impl Material for Yield {
 
     ghost means = { λ s. yield_means s.strength.psi s.strength.graded };
 
-    fn stress_at(&self, ratio: Ratio) -> (i64, i64) {
+    fn stress_at(&self, ratio: Ratio) -> Bounds {
         held_slope(ELASTIC_PSI, self.strength.psi, self.strength.psi, ratio)
     }
 
