@@ -1,5 +1,6 @@
 -- What a material law means, and what it answers.
 use Rattle.std.specs.Prelude.{◌≡◌, ℕ, ◌*◌, ℤ, pos, neg_ℤ, ◌≤ℤ◌, Ok, Err, Result}
+use Rattle.exact.specs.declared.bounds.Bounds.{Bounds}
 use Rattle.exact.specs.Fractions.{Fraction, whole, over, ◌≤F◌, ◌*F◌}
 use Rattle.exact.specs.Rounding.{Rounded}
 use Rattle.laws.specs.declared.fault.Fault.{Fault}
@@ -20,6 +21,10 @@ farthest = 100000
 -- and those of a concrete law at most so many
 abbrev pub strongest : ℕ
 strongest = 10000
+
+-- no point of a mill curve has a greater ratio, in thousandths
+abbrev pub greatest_ratio : ℕ
+greatest_ratio = 100000
 
 -- A strain ratio is the strain over the crushing strain 0.003, compression positive; it is at most 1. f gives the exact
 -- stress in psi at each ratio. It is a law where it never falls as the ratio grows, and stays from a least to a most:
@@ -49,7 +54,7 @@ pub record Answerable (n m : ℤ) : Type 0 where
   pub high : n ≤ℤ m
 
 -- the answer at n / m of a law with the stress f: its floor and its ceiling in steps, or a refusal
-abbrev pub Answers : (Fraction → Fraction) → ℤ → ℤ → Result (ℤ × ℤ) Fault → Type 0
+abbrev pub Answers : (Fraction → Fraction) → ℤ → ℤ → Result Bounds Fault → Type 0
 Answers f n m (Ok a) = Answerable n m × Rounded (in_steps (f (over n m))) a
 Answers f n m (Err e) = (Answerable n m → ⊥) × (refusal e ≡ 3)
 

@@ -1,13 +1,14 @@
 // The stress along the points of a mill curve, in compression.
-ghost use Rattle.std.specs.Prelude.{◌≡◌, ◌*◌, ◌≤◌, true, map, pos};
+ghost use Rattle.std.specs.Prelude.{◌≡◌, ◌*◌, ◌<◌, ◌≤◌, true, map, pos};
 ghost use Rattle.exact.specs.Fractions.{over, fraction_le};
 ghost use Rattle.exact.specs.Rounding.{Rounded};
 ghost use Rattle.laws.specs.Curves.{at, curve, line};
 ghost use Rattle.laws.specs.Meaning.{greatest_axis, in_steps};
-ghost use Rattle.laws.specs.Rules.{in_limits, reading, rises, ruled};
+ghost use Rattle.laws.specs.Rules.{reading, ruled};
 
 use crate::mill::point::Point;
-use crate::rounding::{in_steps, rounded_ratio};
+use crate::rounding::{rounded_ratio, whole};
+use exact::bounds::Bounds;
 
 // A ratio n / m of compression, or of tension with its sign turned.
 #[derive(Clone, Copy)]
@@ -19,34 +20,35 @@ pub(crate) struct Magnitude {
     ghost to: { m ≤ greatest_axis },
 }
 
-// The stress along the points.
-pub(crate) fn along(points: &[Point], ratio: Magnitude) -> (i64, i64)
+// The stress along the points; where there is none, no stress.
+pub(crate) fn along(points: &[Point], ratio: Magnitude) -> Bounds
     requires { ruled (map reading points.now) ≡ true }
     ensures { Rounded (in_steps (curve points.now (over (pos ratio.n) (pos ratio.m)))) result }
 {
-    let mut last = points[0];
-    for i in 1..points.len() {
-        let next = points[i];
+    let [first, rest @ ..] = points else {
+        return whole(0);
+    };
+    let mut last = *first;
+    for &next in rest {
         if reaches(next, ratio) {
             return between(last, next, ratio);
         }
         last = next;
     }
-    (in_steps(last.stress), in_steps(last.stress))
+    whole(last.stress)
 }
 
 // Whether a point lies at the ratio or past it.
 fn reaches(point: Point, ratio: Magnitude) -> bool
-    requires { in_limits (reading point) ≡ true }
     ensures { result ≡ fraction_le (over (pos ratio.n) (pos ratio.m)) (at point) }
 {
     ratio.n * 1_000 <= point.ratio as u64 * ratio.m
 }
 
 // The stress on the straight line from a to b.
-fn between(a: Point, b: Point, ratio: Magnitude) -> (i64, i64)
-    requires rises { rises (reading a) (reading b) ≡ true }
-    requires limits { in_limits (reading b) ≡ true }
+fn between(a: Point, b: Point, ratio: Magnitude) -> Bounds
+    requires further { a.ratio < b.ratio }
+    requires no_less { a.stress ≤ b.stress }
     requires past { a.ratio * ratio.m ≤ ratio.n * 1000 }
     ensures { Rounded (in_steps (line a b (over (pos ratio.n) (pos ratio.m)))) result }
 {
