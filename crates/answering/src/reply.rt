@@ -27,7 +27,7 @@ pub fn reply_to(heap: Global, line: &[u8]) -> Result<Option<Reply>, AllocError>
     let Some(question) = question_asked(heap, line)? else {
         return Ok(Some(Reply::Unreadable));
     };
-    match answer(heap, &question)? {
+    match answer(&question) {
         Ok((floor, ceiling)) => Ok(Some(Reply::Stress { floor, ceiling })),
         Err(fault) => Ok(Some(Reply::Refused(fault))),
     }

@@ -1,5 +1,6 @@
 // What a line asks of a material law.
 #![tactic(auto)]
 
+pub mod asked;
 pub mod law;
 pub mod question;
