@@ -1,8 +1,9 @@
 -- Sums and products of fractions, and sign: how they keep the order.
 use Rattle.std.proofs.Common.{◌≡◌, ℕ, zero, suc, ◌+◌, ◌-◌, ◌*◌, ◌≤◌, ℤ, pos, negsuc, ◌+ℤ◌, ◌-ℤ◌, ◌*ℤ◌, neg_ℤ, ◌≤ℤ◌, sym, subst, mul-le-mul_right, arith}
 use borrow.Author.Differences.{ints, up, down}
+use Rattle.exact.specs.declared.bounds.Bounds.{Bounds}
 use Rattle.exact.specs.Fractions.{Fraction, whole, over, Crossed≤, Crossed<, ◌≤F◌, ◌<F◌, ◌≈F◌, ◌+F◌, ◌*F◌, minus}
-use Rattle.exact.specs.Rounding.{Rounded}
+use Rattle.exact.specs.Rounding.{Rounded, turned}
 use Rattle.exact.proofs.Represented as R
 use Rattle.exact.proofs.Order.{out, out<, ≤_trans, same_≤}
 
@@ -86,11 +87,11 @@ unfolding Crossed< minus
 minus_mono< {p} {q} h = let o = out< h in record { cross = R.lt (R.by (R.neg (R.v q.num)) p.den) (R.by (R.neg (R.v p.num)) q.den) (omega arith) }
 
 -- and exchanges floor and ceiling
-pub minus_rounded : {q : Fraction} {a b : ℤ} → Rounded q (a, b) → Rounded (minus q) (neg_ℤ b, neg_ℤ a)
+pub minus_rounded : {q : Fraction} {r : Bounds} → Rounded q r → Rounded (minus q) (turned r)
 unfolding minus
-minus_rounded {q} {a} {b} w =
-    let e : neg_ℤ (b -ℤ pos 1) ≡ neg_ℤ b +ℤ pos 1 = omega (arith, ints) in
-    let f : neg_ℤ (a +ℤ pos 1) ≡ neg_ℤ a -ℤ pos 1 = omega (arith, ints) in
+minus_rounded {q} {r} w =
+    let e : neg_ℤ (r.ceiling -ℤ pos 1) ≡ neg_ℤ r.ceiling +ℤ pos 1 = omega (arith, ints) in
+    let f : neg_ℤ (r.floor +ℤ pos 1) ≡ neg_ℤ r.floor -ℤ pos 1 = omega (arith, ints) in
     record {
       floor = record { reached = minus_mono w.ceiling.reached; next = subst (λ (z : ℤ). minus q <F whole z) e (minus_mono< w.ceiling.before) };
       ceiling = record { reached = minus_mono w.floor.reached; before = subst (λ (z : ℤ). whole z <F minus q) f (minus_mono< w.floor.next) };

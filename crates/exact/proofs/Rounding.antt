@@ -3,6 +3,7 @@ use Rattle.std.proofs.Common.{◌≡◌, ℕ, zero, suc, ◌+◌, ◌-◌, ◌*�
 use Rattle.std.proofs.Math.Nat.{div-add-mod}
 use borrow.Author.Differences.{ints, up, down}
 use Rattle.std.specs.Int.{int_div_euclid, int_rem_euclid}
+use Rattle.exact.specs.declared.bounds.Bounds.{Bounds}
 use Rattle.exact.specs.Fractions.{Fraction, whole, part, over, Crossed≤, Crossed<, ◌≤F◌, ◌≈F◌}
 use Rattle.exact.specs.Rounding.{IsFloor, IsCeiling, Rounded}
 use Rattle.exact.proofs.Represented as R
@@ -43,18 +44,18 @@ ceiling_whole : (k : ℤ) → IsCeiling (whole k) k
 unfolding Crossed≤ Crossed<
 ceiling_whole k = record { reached = record { cross = omega (arith, ints) }; before = record { cross = omega (arith, ints) } }
 
-pub rounded_whole : (k : ℤ) → Rounded (whole k) (k, k)
+pub rounded_whole : (k : ℤ) → Rounded (whole k) (record { floor = k; ceiling = k })
 rounded_whole k = record { floor = floor_whole k; ceiling = ceiling_whole k }
 
 -- the same number is rounded alike
-pub rounded_same : {p q : Fraction} {r : ℤ × ℤ} → p ≈F q → Rounded p r → Rounded q r
+pub rounded_same : {p q : Fraction} {r : Bounds} → p ≈F q → Rounded p r → Rounded q r
 rounded_same h w = record {
   floor = record { reached = ≤_trans w.floor.reached h.0; next = ≤<_trans h.1 w.floor.next };
   ceiling = record { reached = ≤_trans h.1 w.ceiling.reached; before = <≤_trans w.ceiling.before h.0 };
 }
 
 -- there is one pair of floor and ceiling
-pub rounded_one : {q : Fraction} {r s : ℤ × ℤ} → Rounded q r → Rounded q s → r ≡ s
+pub rounded_one : {q : Fraction} {r s : Bounds} → Rounded q r → Rounded q s → r ≡ s
 rounded_one w v = pair
     (both (floor_mono ≤_refl w.floor v.floor) (floor_mono ≤_refl v.floor w.floor))
     (both (ceiling_mono ≤_refl w.ceiling v.ceiling) (ceiling_mono ≤_refl v.ceiling w.ceiling))
@@ -62,7 +63,7 @@ rounded_one w v = pair
     both : {a b : ℤ} → a ≤ℤ b → b ≤ℤ a → a ≡ b
     both h g = omega (arith, ints)
 
-    pair : {a b x y : ℤ} → a ≡ x → b ≡ y → ◌≡◌ {A = ℤ × ℤ} (a, b) (x, y)
+    pair : {a b x y : ℤ} → a ≡ x → b ≡ y → ◌≡◌ {A = Bounds} (record { floor = a; ceiling = b }) (record { floor = x; ceiling = y })
     pair e f = cc
 
 -- z is k times d + 1, and a rest of at most d

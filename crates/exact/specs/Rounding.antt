@@ -1,5 +1,6 @@
 -- Fractions rounded to whole numbers.
-use Rattle.std.specs.Prelude.{ℤ, pos, ◌+ℤ◌, ◌-ℤ◌}
+use Rattle.std.specs.Prelude.{ℤ, pos, ◌+ℤ◌, ◌-ℤ◌, neg_ℤ, ◌≤ℤ◌}
+use Rattle.exact.specs.declared.bounds.Bounds.{Bounds}
 use Rattle.exact.specs.Fractions.{Fraction, whole, ◌≤F◌, ◌<F◌}
 
 -- k is the floor of q: the greatest whole number that is not above q
@@ -12,7 +13,16 @@ pub record IsCeiling (q : Fraction) (k : ℤ) : Type 0 where
   pub reached : q ≤F whole k
   pub before : whole (k -ℤ pos 1) <F q
 
--- r is the floor of q, and its ceiling
-pub record Rounded (q : Fraction) (r : ℤ × ℤ) : Type 0 where
-  pub floor : IsFloor q r.0
-  pub ceiling : IsCeiling q r.1
+-- r has the floor of q, and its ceiling
+pub record Rounded (q : Fraction) (r : Bounds) : Type 0 where
+  pub floor : IsFloor q r.floor
+  pub ceiling : IsCeiling q r.ceiling
+
+-- the sign turned: the floor with its sign turned is the ceiling, and the ceiling the floor
+abbrev pub turned : Bounds → Bounds
+turned r = record { floor = neg_ℤ r.ceiling; ceiling = neg_ℤ r.floor }
+
+-- neither number is the least of 64 bits, whose sign cannot be turned
+pub record Turnable (r : Bounds) : Type 0 where
+  pub floor : neg_ℤ (pos 9223372036854775807) ≤ℤ r.floor
+  pub ceiling : neg_ℤ (pos 9223372036854775807) ≤ℤ r.ceiling

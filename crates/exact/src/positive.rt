@@ -1,7 +1,7 @@
 // Numbers by which something is divided.
 ghost use Rattle.std.specs.Prelude.{◌≡◌, pos, ◌≤ℤ◌, ◌<ℤ◌, MatchOption};
 
-// A whole number from 1 on.
+/// A whole number from 1 on.
 #[derive(Clone, Copy)]
 pub struct Positive {
     pub value: i64,
@@ -9,7 +9,7 @@ pub struct Positive {
 }
 
 impl Positive {
-    // The number as a positive one, or none where it is below 1.
+    /// The number as a positive one, or none where it is below 1.
     pub fn new(value: i64) -> Option<Positive>
         ensures { MatchOption result (value <ℤ pos 1) (λ p. p.value ≡ value) }
     {

@@ -1,6 +1,7 @@
 -- What a law answers at a ratio is the floor and the ceiling of its stress, which are computed at literals.
 use Rattle.std.proofs.Common.{◌≡◌, Bool, T, ℤ, pos, ◌+ℤ◌, ◌-ℤ◌, ◌*ℤ◌, neg_ℤ, Ok, Err, Result, sym, ap, subst}
 use Rattle.std.specs.Int.Signed.{le_z, lt_z, le_z_yes, lt_z_yes}
+use Rattle.exact.specs.declared.bounds.Bounds.{Bounds}
 use Rattle.exact.specs.Fractions.{Fraction, Crossed≤, Crossed<, whole, over, fraction_le}
 use Rattle.exact.specs.Rounding.{Rounded}
 use Rattle.exact.proofs.Rounding.{rounded_one}
@@ -17,13 +18,13 @@ abbrev less : Fraction → Fraction → Bool
 less p q = lt_z (p.num *ℤ pos q.den) (q.num *ℤ pos p.den)
 
 -- the tests that r has the floor of q and its ceiling
-abbrev pub Tested : Fraction → ℤ × ℤ → Type 0
-Tested q r = T (fraction_le (whole r.0) q) × T (less q (whole (r.0 +ℤ pos 1))) × T (fraction_le q (whole r.1)) × T (less (whole (r.1 -ℤ pos 1)) q)
+abbrev pub Tested : Fraction → Bounds → Type 0
+Tested q r = T (fraction_le (whole r.floor) q) × T (less q (whole (r.floor +ℤ pos 1))) × T (fraction_le q (whole r.ceiling)) × T (less (whole (r.ceiling -ℤ pos 1)) q)
 
 in_range : {n m : ℤ} → InRange n m → Answerable n m
 in_range t = record { from = le_z_yes t.0; to = le_z_yes t.1; low = le_z_yes t.2; high = le_z_yes t.3 }
 
-rounded : {q : Fraction} {r : ℤ × ℤ} → Tested q r → Rounded q r
+rounded : {q : Fraction} {r : Bounds} → Tested q r → Rounded q r
 unfolding Crossed≤ Crossed<
 rounded t = record {
   floor = record { reached = record { cross = le_z_yes t.0 }; next = record { cross = lt_z_yes t.1 } };
@@ -31,10 +32,10 @@ rounded t = record {
 }
 
 -- so nothing else is answered there
-pub answered : (f : Fraction → Fraction) (n m : ℤ) (a : ℤ × ℤ) (r : Result (ℤ × ℤ) Fault) → Answers f n m r → InRange n m → Tested (in_steps (f (over n m))) a → r ≡ Ok a
-answered f n m a (Ok b) h t u = ap (λ (x : ℤ × ℤ). Ok x) (rounded_one h.1 (rounded u))
+pub answered : (f : Fraction → Fraction) (n m : ℤ) (a : Bounds) (r : Result Bounds Fault) → Answers f n m r → InRange n m → Tested (in_steps (f (over n m))) a → r ≡ Ok a
+answered f n m a (Ok b) h t u = ap (λ (x : Bounds). Ok x) (rounded_one h.1 (rounded u))
 answered f n m a (Err e) h t u = absurd (h.0 (in_range t))
 
 -- the law that was made is that of `of`, and the ratio that was asked n / m
-pub figure : {K : Type 0} (stress : K → Fraction → Fraction) {made : K} (of : K) {x y : ℤ} (n m : ℤ) {a : ℤ × ℤ} {r : Result (ℤ × ℤ) Fault} → Gives (stress of) n m a → Answers (stress made) x y r → made ≡ of → x ≡ n → y ≡ m → r ≡ Ok a
+pub figure : {K : Type 0} (stress : K → Fraction → Fraction) {made : K} (of : K) {x y : ℤ} (n m : ℤ) {a : Bounds} {r : Result Bounds Fault} → Gives (stress of) n m a → Answers (stress made) x y r → made ≡ of → x ≡ n → y ≡ m → r ≡ Ok a
 figure stress of n m {a} {r} g h e i j = g r (subst (λ k. Answers (stress k) n m r) e (rw (sym i, sym j) h))

@@ -2,8 +2,9 @@
 #![tactic(auto)]
 
 ghost use Rattle.std.specs.Prelude.{◌≡◌, pos, negsuc, Ok};
-ghost use Rattle.figures.specs.Figures.{Worked};
+ghost use Rattle.figures.specs.Figures.{Worked, bounds};
 
+use exact::bounds::Bounds;
 use laws::block::Block;
 use laws::fault::Fault;
 use laws::material::Material;
@@ -22,29 +23,29 @@ pub struct LawFigures {
     pub beta_8000: u32,
     pub beta_10000: u32,
     // the block of 4,000 at 3/20 and at 29/200
-    pub block_at_edge: (i64, i64),
-    pub block_below_edge: (i64, i64),
+    pub block_at_edge: Bounds,
+    pub block_below_edge: Bounds,
     // the trapezoid of 4,000 at 1/7 and at 1/2
-    pub trapezoid_seventh: (i64, i64),
-    pub trapezoid_half: (i64, i64),
+    pub trapezoid_seventh: Bounds,
+    pub trapezoid_half: Bounds,
     // the yield law of 60,000 at 1/7 and at -1/7
-    pub yield_seventh: (i64, i64),
-    pub yield_in_tension: (i64, i64),
+    pub yield_seventh: Bounds,
+    pub yield_in_tension: Bounds,
     // the mill curve (0, 0), (690, 60,000), (5,000, 80,000) at 1
-    pub mill_one: (i64, i64),
+    pub mill_one: Bounds,
 }
 
 // The figures, each a theorem: about the definitions of the laws, and about what their calls return.
 pub fn law_figures() -> Result<LawFigures, Fault>
     ensures worked { Worked }
-    ensures returned { result ≡ Ok (record { beta_4000 = 850; beta_4100 = 845; beta_8000 = 650; beta_10000 = 650; block_at_edge = (pos 3400, pos 3400); block_below_edge = (pos 0, pos 0); trapezoid_seventh = (pos 971, pos 972); trapezoid_half = (pos 3400, pos 3400); yield_seventh = (pos 12428, pos 12429); yield_in_tension = (negsuc 12428, negsuc 12427); mill_one = (pos 61438, pos 61439) }) }
+    ensures returned { result ≡ Ok (record { beta_4000 = 850; beta_4100 = 845; beta_8000 = 650; beta_10000 = 650; block_at_edge = bounds (pos 3400) (pos 3400); block_below_edge = bounds (pos 0) (pos 0); trapezoid_seventh = bounds (pos 971) (pos 972); trapezoid_half = bounds (pos 3400) (pos 3400); yield_seventh = bounds (pos 12428) (pos 12429); yield_in_tension = bounds (negsuc 12428) (negsuc 12427); mill_one = bounds (pos 61438) (pos 61439) }) }
 {
     answers()
 }
 
 // What the laws answer.
 fn answers() -> Result<LawFigures, Fault>
-    ensures { result ≡ Ok (record { beta_4000 = 850; beta_4100 = 845; beta_8000 = 650; beta_10000 = 650; block_at_edge = (pos 3400, pos 3400); block_below_edge = (pos 0, pos 0); trapezoid_seventh = (pos 971, pos 972); trapezoid_half = (pos 3400, pos 3400); yield_seventh = (pos 12428, pos 12429); yield_in_tension = (negsuc 12428, negsuc 12427); mill_one = (pos 61438, pos 61439) }) }
+    ensures { result ≡ Ok (record { beta_4000 = 850; beta_4100 = 845; beta_8000 = 650; beta_10000 = 650; block_at_edge = bounds (pos 3400) (pos 3400); block_below_edge = bounds (pos 0) (pos 0); trapezoid_seventh = bounds (pos 971) (pos 972); trapezoid_half = bounds (pos 3400) (pos 3400); yield_seventh = bounds (pos 12428) (pos 12429); yield_in_tension = bounds (negsuc 12428) (negsuc 12427); mill_one = bounds (pos 61438) (pos 61439) }) }
 {
     Ok(LawFigures {
         beta_4000: beta(4_000)?,
@@ -73,35 +74,35 @@ fn beta(fc: i64) -> Result<u32, Fault>
 }
 
 // The block of 4,000 psi.
-fn block(n: i64, m: i64) -> Result<(i64, i64), Fault>
-    ensures at_edge { n ≡ pos 3 → m ≡ pos 20 → result ≡ Ok (pos 3400, pos 3400) }
-    ensures below_edge { n ≡ pos 29 → m ≡ pos 200 → result ≡ Ok (pos 0, pos 0) }
+fn block(n: i64, m: i64) -> Result<Bounds, Fault>
+    ensures at_edge { n ≡ pos 3 → m ≡ pos 20 → result ≡ Ok (bounds (pos 3400) (pos 3400)) }
+    ensures below_edge { n ≡ pos 29 → m ≡ pos 200 → result ≡ Ok (bounds (pos 0) (pos 0)) }
 {
     let block = Block::new(4_000)?;
     block.answer(n, m)
 }
 
 // The trapezoid of 4,000 psi.
-fn trapezoid(n: i64, m: i64) -> Result<(i64, i64), Fault>
-    ensures seventh { n ≡ pos 1 → m ≡ pos 7 → result ≡ Ok (pos 971, pos 972) }
-    ensures half { n ≡ pos 1 → m ≡ pos 2 → result ≡ Ok (pos 3400, pos 3400) }
+fn trapezoid(n: i64, m: i64) -> Result<Bounds, Fault>
+    ensures seventh { n ≡ pos 1 → m ≡ pos 7 → result ≡ Ok (bounds (pos 971) (pos 972)) }
+    ensures half { n ≡ pos 1 → m ≡ pos 2 → result ≡ Ok (bounds (pos 3400) (pos 3400)) }
 {
     let trapezoid = Trapezoid::new(4_000)?;
     trapezoid.answer(n, m)
 }
 
 // The yield law of 60,000 psi.
-fn yielding(n: i64, m: i64) -> Result<(i64, i64), Fault>
-    ensures seventh { n ≡ pos 1 → m ≡ pos 7 → result ≡ Ok (pos 12428, pos 12429) }
-    ensures in_tension { n ≡ negsuc 0 → m ≡ pos 7 → result ≡ Ok (negsuc 12428, negsuc 12427) }
+fn yielding(n: i64, m: i64) -> Result<Bounds, Fault>
+    ensures seventh { n ≡ pos 1 → m ≡ pos 7 → result ≡ Ok (bounds (pos 12428) (pos 12429)) }
+    ensures in_tension { n ≡ negsuc 0 → m ≡ pos 7 → result ≡ Ok (bounds (negsuc 12428) (negsuc 12427)) }
 {
     let steel = Yield::new(60_000)?;
     steel.answer(n, m)
 }
 
 // The mill curve of three points.
-fn mill(n: i64, m: i64) -> Result<(i64, i64), Fault>
-    ensures { n ≡ pos 1 → m ≡ pos 1 → result ≡ Ok (pos 61438, pos 61439) }
+fn mill(n: i64, m: i64) -> Result<Bounds, Fault>
+    ensures { n ≡ pos 1 → m ≡ pos 1 → result ≡ Ok (bounds (pos 61438) (pos 61439)) }
 {
     let readings = [
         Reading {

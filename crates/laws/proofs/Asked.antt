@@ -1,6 +1,7 @@
 -- What follows from the meaning of a law for its answers, whatever the law.
 use Rattle.std.proofs.Common.{zero, suc, ℤ, pos, negsuc, ◌≤ℤ◌, IfOk, Ok, Err, Result, arith}
 use borrow.Author.Differences.{ints}
+use Rattle.exact.specs.declared.bounds.Bounds.{Bounds}
 use Rattle.exact.specs.Fractions.{Fraction, whole, over, Crossed≤, ◌≤F◌, ◌≈F◌}
 use Rattle.exact.proofs.Rounding.{floor_from, ceiling_from, ceiling_to, floor_mono, ceiling_mono, rounded_one}
 use Rattle.exact.proofs.Order.{<_weak}
@@ -20,7 +21,7 @@ at_most_one {n} {m} w = at m w.from w.high where
   at (negsuc d) h g = absurd h.le
 
 module _ {f : Fraction → Fraction} {least most : ℤ} (law : Means f least most) (n m : ℤ) where
-  pub asked_between : (r : Result (ℤ × ℤ) Fault) → Answers f n m r → IfOk r (λ a. Between least most a)
+  pub asked_between : (r : Result Bounds Fault) → Answers f n m r → IfOk r (λ a. Between least most a)
   asked_between (Err e) w = tt
   asked_between (Ok a) (w, r) = record {
     from = floor_from (law.from (at_most_one w)) r.floor;
@@ -29,13 +30,13 @@ module _ {f : Fraction → Fraction} {least most : ℤ} (law : Means f least mos
     to = ceiling_to (law.to (at_most_one w)) r.ceiling;
   }
 
-  pub asked_rising : (r : Result (ℤ × ℤ) Fault) → Answers f n m r → IfOk r (λ a. Rising f n m a)
+  pub asked_rising : (r : Result Bounds Fault) → Answers f n m r → IfOk r (λ a. Rising f n m a)
   asked_rising (Err e) w = tt
   asked_rising (Ok a) (w, r) = λ n' m' b v h.
       let g = steps_mono (law.rises (at_most_one v.0) h) in
       (floor_mono g r.floor v.1.floor, ceiling_mono g r.ceiling v.1.ceiling)
 
-  pub asked_alike : (r : Result (ℤ × ℤ) Fault) → Answers f n m r → IfOk r (λ a. Alike f n m a)
+  pub asked_alike : (r : Result Bounds Fault) → Answers f n m r → IfOk r (λ a. Alike f n m a)
   asked_alike (Err e) w = tt
   asked_alike (Ok a) (w, r) = λ n' m' b v h.
       let e : f (over n m) ≈F f (over n' m') = (law.rises (at_most_one v.0) h.0, law.rises (at_most_one w) h.1) in

@@ -1,23 +1,23 @@
 -- The mill curve's stress is that of the curve in compression, with the sign of the ratio.
-use Rattle.std.specs.Prelude.{◌≡◌, ℕ, zero, suc, Bool, true, false, cond, List, map, ℤ, pos, negsuc, neg_ℤ, ◌≤ℤ◌, int_le, unsigned_abs, refl}
-use Rattle.std.proofs.Common.{arith, sym, subst, ap, ◌∙◌}
+use Rattle.std.specs.Prelude.{◌≡◌, ℕ, zero, suc, true, List, map, ℤ, pos, negsuc, ◌≤ℤ◌, ◌<ℤ◌, unsigned_abs, refl}
+use Rattle.std.proofs.Common.{arith, sym, subst}
 use Rattle.std.proofs.lemmas.Int.{ints}
+use Rattle.exact.specs.declared.bounds.Bounds.{Bounds}
 use Rattle.exact.specs.Fractions.{Fraction, whole, part, over, Crossed≤, Crossed<, ◌≤F◌, ◌<F◌, ◌≈F◌, ◌*F◌, minus}
-use Rattle.exact.specs.Ranges.{Within}
-use Rattle.exact.specs.Rounding.{Rounded}
+use Rattle.exact.specs.Rounding.{Rounded, turned, Turnable}
 use Rattle.exact.proofs.Represented as R
 use Rattle.exact.proofs.Order.{≤_trans, same_≤, by_fraction_le, over_from, whole_≤}
 use Rattle.exact.proofs.Arithmetic.{minus_rounded}
 use Rattle.exact.proofs.Rounding.{floor_from, floor_to, ceiling_from, ceiling_to, rounded_same}
 use Rattle.laws.specs.declared.mill.point.Point.{Point}
 use Rattle.laws.specs.Curves.{curve, mill_stress}
-use Rattle.laws.specs.Meaning.{steps, in_steps, farthest, countable}
+use Rattle.laws.specs.Meaning.{steps, in_steps, farthest}
 use Rattle.laws.specs.Rules.{reading, ruled}
 use Rattle.laws.specs.Owed.Bent.{curve_from, curve_to, last_small}
 use Rattle.laws.specs.Owed.Stepping.{steps_mono, steps_whole}
 
 -- what is rounded of the curve is no great number
-pub curve_small : (ps : List Point) (n m : ℕ) {r : ℤ × ℤ} → ruled (map reading ps) ≡ true → Rounded (in_steps (curve ps (over (pos n) (pos m)))) r → Within countable r.0 × Within countable r.1
+pub curve_small : (ps : List Point) (n m : ℕ) {r : Bounds} → ruled (map reading ps) ≡ true → Rounded (in_steps (curve ps (over (pos n) (pos m)))) r → Turnable r
 unfolding steps
 curve_small ps n m {r} h w =
     let q = over (pos n) (pos m) in
@@ -27,7 +27,7 @@ curve_small ps n m {r} h w =
     let b = floor_to to w.floor in
     let c = ceiling_from from w.ceiling in
     let d = ceiling_to to w.ceiling in
-    (record { low = omega (arith, ints); high = omega (arith, ints) }, record { low = omega (arith, ints); high = omega (arith, ints) })
+    record { floor = omega (arith, ints); ceiling = omega (arith, ints) }
 
 -- steps of a stress with its sign turned
 steps_minus : (q : Fraction) → minus (in_steps q) ≈F in_steps (minus q)
@@ -43,25 +43,27 @@ tensed : (n d : ℕ) → whole (pos 0) ≤F part (negsuc n) d → ⊥
 unfolding Crossed≤
 tensed n d h = omega (arith, ints)
 
-module _ (ps : List Point) (a b : ℤ) where
-  in_compression : (n d : ℕ) → Rounded (in_steps (curve ps (part (pos n) d))) (a, b) → Rounded (in_steps (mill_stress ps (part (pos n) d))) (a, b)
+module _ (ps : List Point) {r : Bounds} where
+  in_compression : (n d : ℕ) → Rounded (in_steps (curve ps (part (pos n) d))) r → Rounded (in_steps (mill_stress ps (part (pos n) d))) r
   unfolding mill_stress
-  in_compression n d w = by_fraction_le (λ (v : Fraction). Rounded (in_steps v) (a, b)) (whole (pos 0)) (part (pos n) d) (λ x. w) (λ x. absurd (compressed n d x))
+  in_compression n d w = by_fraction_le (λ (v : Fraction). Rounded (in_steps v) r) (whole (pos 0)) (part (pos n) d) (λ x. w) (λ x. absurd (compressed n d x))
 
-  in_tension : (n d : ℕ) → Rounded (in_steps (curve ps (part (pos (suc n)) d))) (a, b) → Rounded (in_steps (mill_stress ps (part (negsuc n) d))) (neg_ℤ b, neg_ℤ a)
+  in_tension : (n d : ℕ) → Rounded (in_steps (curve ps (part (pos (suc n)) d))) r → Rounded (in_steps (mill_stress ps (part (negsuc n) d))) (turned r)
   unfolding mill_stress minus
-  in_tension n d w = by_fraction_le (λ (v : Fraction). Rounded (in_steps v) (neg_ℤ b, neg_ℤ a)) (whole (pos 0)) (part (negsuc n) d) (λ x. absurd (tensed n d x)) (λ x. rounded_same (steps_minus (curve ps (part (pos (suc n)) d))) (minus_rounded w))
+  in_tension n d w = by_fraction_le (λ (v : Fraction). Rounded (in_steps v) (turned r)) (whole (pos 0)) (part (negsuc n) d) (λ x. absurd (tensed n d x)) (λ x. rounded_same (steps_minus (curve ps (part (pos (suc n)) d))) (minus_rounded w))
 
-at_magnitudes : (ps : List Point) (x y : ℕ) {u v : ℕ} {r : ℤ × ℤ} → Rounded (in_steps (curve ps (over (pos x) (pos y)))) r → x ≡ u → y ≡ v → Rounded (in_steps (curve ps (over (pos u) (pos v)))) r
+at_magnitudes : (ps : List Point) (x y : ℕ) {u v : ℕ} {r : Bounds} → Rounded (in_steps (curve ps (over (pos x) (pos y)))) r → x ≡ u → y ≡ v → Rounded (in_steps (curve ps (over (pos u) (pos v)))) r
 at_magnitudes ps x y {u} {v} {r} w e f = subst (λ (s : ℕ). Rounded (in_steps (curve ps (over (pos s) (pos v)))) r) e (subst (λ (s : ℕ). Rounded (in_steps (curve ps (over (pos x) (pos s)))) r) f w)
 
--- n and m by their magnitudes x and y, and the sign of n
-pub mill_is : (ps : List Point) (n m : ℤ) (x y : ℕ) {a b z : ℤ} {r : ℤ × ℤ} → pos 1 ≤ℤ m → x ≡ unsigned_abs n → y ≡ unsigned_abs m → Rounded (in_steps (curve ps (over (pos x) (pos y)))) (a, b) → z ≡ n → r ≡ cond (int_le (pos 0) z) (a, b) (neg_ℤ b, neg_ℤ a) → Rounded (in_steps (mill_stress ps (over n m))) r
-mill_is ps n (pos zero) x y h e f w i k = absurd h.le
-mill_is ps n (negsuc d) x y h e f w i k = absurd h.le
-mill_is ps (pos n) (pos (suc d)) x y {a} {b} {z} {r} h e f w i k =
-    let t : int_le (pos 0) z ≡ true = rw i (grind (arith, ints)) in
-    subst (Rounded (in_steps (mill_stress ps (part (pos n) d)))) (sym (k ∙ ap (λ (c : Bool). cond {A = ℤ × ℤ} c (a, b) (neg_ℤ b, neg_ℤ a)) t)) (in_compression ps a b n d (at_magnitudes ps x y w e f))
-mill_is ps (negsuc n) (pos (suc d)) x y {a} {b} {z} {r} h e f w i k =
-    let t : int_le (pos 0) z ≡ false = rw i (grind (arith, ints)) in
-    subst (Rounded (in_steps (mill_stress ps (part (negsuc n) d)))) (sym (k ∙ ap (λ (c : Bool). cond {A = ℤ × ℤ} c (a, b) (neg_ℤ b, neg_ℤ a)) t)) (in_tension ps a b n d (at_magnitudes ps x y w e f))
+-- n and m by their magnitudes x and y: as it is where n is not negative, and elsewhere with its sign turned
+pub mill_compressed : (ps : List Point) (n m : ℤ) (x y : ℕ) {r : Bounds} → pos 1 ≤ℤ m → pos 0 ≤ℤ n → x ≡ unsigned_abs n → y ≡ unsigned_abs m → Rounded (in_steps (curve ps (over (pos x) (pos y)))) r → Rounded (in_steps (mill_stress ps (over n m))) r
+mill_compressed ps n (pos zero) x y h g e f w = absurd h.le
+mill_compressed ps n (negsuc d) x y h g e f w = absurd h.le
+mill_compressed ps (negsuc n) (pos (suc d)) x y h g e f w = absurd g.le
+mill_compressed ps (pos n) (pos (suc d)) x y h g e f w = in_compression ps n d (at_magnitudes ps x y w e f)
+
+pub mill_tensed : (ps : List Point) (n m : ℤ) (x y : ℕ) {r : Bounds} → pos 1 ≤ℤ m → n <ℤ pos 0 → x ≡ unsigned_abs n → y ≡ unsigned_abs m → Rounded (in_steps (curve ps (over (pos x) (pos y)))) r → Rounded (in_steps (mill_stress ps (over n m))) (turned r)
+mill_tensed ps n (pos zero) x y h g e f w = absurd h.le
+mill_tensed ps n (negsuc d) x y h g e f w = absurd h.le
+mill_tensed ps (pos n) (pos (suc d)) x y h g e f w = absurd (omega (arith, ints))
+mill_tensed ps (negsuc n) (pos (suc d)) x y h g e f w = in_tension ps n d (at_magnitudes ps x y w e f)

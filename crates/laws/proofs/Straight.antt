@@ -3,6 +3,7 @@ use Rattle.std.specs.Prelude.{◌≡◌, ℕ, zero, suc, ◌+◌, ◌-◌, ◌*�
 use Rattle.std.proofs.Math.Nat.{mul-pos}
 use Rattle.std.proofs.lemmas.Int.{ints}
 use Rattle.std.proofs.Common.{arith, refl, sym, subst, ap}
+use Rattle.exact.specs.declared.bounds.Bounds.{Bounds}
 use Rattle.exact.specs.Fractions.{whole, over, Crossed≤, ◌≈F◌, ◌+F◌, ◌*F◌, minus}
 use Rattle.exact.specs.Rounding.{Rounded}
 use Rattle.exact.proofs.Represented as R
@@ -49,5 +50,5 @@ module _ (a b : Point) (l : Leads a b) where
       parts t (suc u) real = (same_≤ refl refl, same_≤ refl refl)
 
   -- t / u, worked out as one quotient, is rounded as the line is
-  pub rounded_line : (n m : ℕ) → 1 ≤ m → a.ratio * m ≤ n * 1000 → {t u : ℕ} {r : ℤ × ℤ} → Rounded (in_steps (over (pos t) (pos u))) r → t ≡ a.stress * ((b.ratio - a.ratio) * m) + (n * 1000 - a.ratio * m) * (b.stress - a.stress) → u ≡ (b.ratio - a.ratio) * m → Rounded (in_steps (line a b (over (pos n) (pos m)))) r
+  pub rounded_line : (n m : ℕ) → 1 ≤ m → a.ratio * m ≤ n * 1000 → {t u : ℕ} {r : Bounds} → Rounded (in_steps (over (pos t) (pos u))) r → t ≡ a.stress * ((b.ratio - a.ratio) * m) + (n * 1000 - a.ratio * m) * (b.stress - a.stress) → u ≡ (b.ratio - a.ratio) * m → Rounded (in_steps (line a b (over (pos n) (pos m)))) r
   rounded_line n m h p {t} {u} {r} w e f = rounded_alike (line_over n m h p) (subst (λ (x : ℕ). Rounded (in_steps (over (pos x) (pos ((b.ratio - a.ratio) * m)))) r) e (subst (λ (x : ℕ). Rounded (in_steps (over (pos t) (pos x))) r) f w))

@@ -1,14 +1,14 @@
 -- A walk along the points of a mill curve: what is left of it is the rest of the curve.
-use Rattle.std.proofs.Common.{◌≡◌, ℕ, ◌+◌, ◌*◌, ◌<◌, ◌≤◌, true, List, ◌∷◌, map, length, get_or, drop, ℤ, pos, subst}
+use Rattle.std.proofs.Common.{◌≡◌, ℕ, ◌+◌, ◌*◌, ◌<◌, ◌≤◌, true, List, ◌∷◌, map, length, get_or, drop, pos, subst}
 use Rattle.std.proofs.lemmas.List.{drop_more, drop_all}
-use Rattle.exact.specs.Fractions.{Fraction, over}
+use Rattle.exact.specs.declared.bounds.Bounds.{Bounds}
+use Rattle.exact.specs.Fractions.{Fraction, whole, over}
 use Rattle.exact.specs.Rounding.{Rounded}
 use Rattle.laws.specs.declared.mill.point.Point.{Point}
 use Rattle.laws.specs.Curves.{beyond, curve}
-use Rattle.laws.specs.Meaning.{steps, in_steps}
+use Rattle.laws.specs.Meaning.{in_steps}
 use Rattle.laws.specs.Rules.{reading, in_limits, climbs}
 use Rattle.laws.specs.Owed.Bent.{Climbs, climbs_more, limited}
-use Rattle.laws.proofs.Stepping.{rounded_psi}
 
 -- from `last` on, past which the ratio n / m is, the rest is the curve's
 pub record Ahead (ps : List Point) (n m : ℕ) (last : Point) (rest : List Point) : Type 0 where
@@ -34,7 +34,7 @@ module _ (n m : ℕ) (ps : List Point) (a : Point) (i : ℕ) (w : Ahead ps n m a
     pub ahead_limited : in_limits (reading b) ≡ true
     ahead_limited = limited b (drop (i + 1) ps) more.rest
 
-  pub ahead_end : {x y : ℤ} → length ps ≤ i → x ≡ pos (steps * a.stress) → y ≡ pos (steps * a.stress) → Rounded (in_steps (curve ps ratio)) (x, y)
-  ahead_end h e f =
+  pub ahead_end : {r : Bounds} → length ps ≤ i → Rounded (in_steps (whole (pos a.stress))) r → Rounded (in_steps (curve ps ratio)) r
+  ahead_end {r} h e =
       let v = subst (Ahead ps n m a) (drop_all i ps h) w in
-      rw (e, f) (subst (λ (u : Fraction). Rounded (in_steps u) (pos (steps * a.stress), pos (steps * a.stress))) v.curve (rounded_psi (pos a.stress)))
+      subst (λ (u : Fraction). Rounded (in_steps u) r) v.curve e

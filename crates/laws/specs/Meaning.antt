@@ -1,5 +1,6 @@
 -- What a material law means, and what it answers.
 use Rattle.std.specs.Prelude.{◌≡◌, ℕ, ◌*◌, ℤ, pos, neg_ℤ, ◌≤ℤ◌, Ok, Err, Result}
+use Rattle.exact.specs.declared.bounds.Bounds.{Bounds}
 use Rattle.exact.specs.Fractions.{Fraction, whole, over, ◌≤F◌, ◌*F◌}
 use Rattle.exact.specs.Rounding.{Rounded}
 use Rattle.laws.specs.declared.fault.Fault.{Fault}
@@ -49,7 +50,7 @@ pub record Answerable (n m : ℤ) : Type 0 where
   pub high : n ≤ℤ m
 
 -- the answer at n / m of a law with the stress f: its floor and its ceiling in steps, or a refusal
-abbrev pub Answers : (Fraction → Fraction) → ℤ → ℤ → Result (ℤ × ℤ) Fault → Type 0
+abbrev pub Answers : (Fraction → Fraction) → ℤ → ℤ → Result Bounds Fault → Type 0
 Answers f n m (Ok a) = Answerable n m × Rounded (in_steps (f (over n m))) a
 Answers f n m (Err e) = (Answerable n m → ⊥) × (refusal e ≡ 3)
 

@@ -5,9 +5,10 @@ ghost use Rattle.laws.specs.Meaning.{Answers};
 
 use crate::fault::Fault;
 use crate::material::Material;
+use exact::bounds::Bounds;
 
 // The floor and the ceiling of the law's stress at n / m, in steps.
-pub fn ask<M: Material>(law: &M, n: i64, m: i64) -> Result<(i64, i64), Fault>
+pub fn ask<M: Material>(law: &M, n: i64, m: i64) -> Result<Bounds, Fault>
     ensures answered { Answers (M.Material.stress law.now) n m result }
     ensures between { IfOk result (λ a. Between (M.Material.lowest law.now) (M.Material.highest law.now) a) }
     ensures rising { IfOk result (λ a. Rising (M.Material.stress law.now) n m a) }
@@ -17,7 +18,7 @@ pub fn ask<M: Material>(law: &M, n: i64, m: i64) -> Result<(i64, i64), Fault>
 }
 
 // The answer alone.
-fn answer_of<M: Material>(law: &M, n: i64, m: i64) -> Result<(i64, i64), Fault>
+fn answer_of<M: Material>(law: &M, n: i64, m: i64) -> Result<Bounds, Fault>
     ensures { Answers (M.Material.stress law.now) n m result }
 {
     law.answer(n, m)

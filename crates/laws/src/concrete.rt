@@ -4,6 +4,8 @@ ghost use Rattle.laws.specs.Meaning.{steps, strongest};
 
 use crate::material::Material;
 
+pub mod law;
+
 // A law of concrete.
 pub trait Concrete: Material {
     // The lowest stress in steps: 0, since concrete takes no tension.

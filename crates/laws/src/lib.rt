@@ -7,6 +7,7 @@ pub mod concrete;
 pub mod fault;
 pub mod material;
 pub mod mill;
+pub mod profile;
 pub mod ratio;
 mod rounding;
 mod shapes;

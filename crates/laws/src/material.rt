@@ -6,6 +6,7 @@ ghost use Rattle.laws.specs.Meaning.{Answers, Means, in_steps};
 
 use crate::fault::Fault;
 use crate::ratio::Ratio;
+use exact::bounds::Bounds;
 
 // A law of concrete or steel.
 pub trait Material {
@@ -18,11 +19,11 @@ pub trait Material {
     ghost highest: { Self → ℤ };
 
     // The floor and the ceiling of the stress at a ratio, in steps.
-    fn stress_at(&self, ratio: Ratio) -> (i64, i64)
+    fn stress_at(&self, ratio: Ratio) -> Bounds
         ensures { Rounded (in_steps (stress self.now (over ratio.n ratio.m))) result };
 
     // The same at n / m, or the fault 3.
-    fn answer(&self, n: i64, m: i64) -> Result<(i64, i64), Fault>
+    fn answer(&self, n: i64, m: i64) -> Result<Bounds, Fault>
         ensures { Answers (stress self.now) n m result }
     {
         let ratio = Ratio::new(n, m)?;

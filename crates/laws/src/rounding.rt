@@ -1,11 +1,12 @@
 // Stresses in psi, rounded to steps.
 ghost use Rattle.std.specs.Prelude.{◌≡◌, ◌*◌, ◌≤◌, pos};
-ghost use Rattle.exact.specs.Fractions.{over};
+ghost use Rattle.exact.specs.Fractions.{over, whole as whole_of};
 ghost use Rattle.exact.specs.Ranges.{Within};
 ghost use Rattle.exact.specs.Rounding.{Rounded};
 ghost use Rattle.laws.specs.Meaning.{countable, in_steps, steps};
 
 use crate::steps::STEPS_PER_PSI;
+use exact::bounds::Bounds;
 use exact::division::{ceiling, floor};
 use exact::positive::Positive;
 
@@ -16,17 +17,31 @@ pub(crate) fn in_steps(psi: u32) -> i64
     psi as i64 * STEPS_PER_PSI
 }
 
+// A whole number of psi in steps, which is its own floor and ceiling.
+pub(crate) fn whole(psi: u32) -> Bounds
+    ensures { Rounded (in_steps (whole_of (pos psi))) result }
+{
+    let stepped = in_steps(psi);
+    Bounds {
+        floor: stepped,
+        ceiling: stepped,
+    }
+}
+
 // num / den psi in steps, rounded down and up.
-pub(crate) fn rounded(num: i64, den: Positive) -> (i64, i64)
+pub(crate) fn rounded(num: i64, den: Positive) -> Bounds
     requires { Within countable num }
     ensures { Rounded (in_steps (over num den.value)) result }
 {
     let stepped = STEPS_PER_PSI * num;
-    (floor(stepped, den), ceiling(stepped, den))
+    Bounds {
+        floor: floor(stepped, den),
+        ceiling: ceiling(stepped, den),
+    }
 }
 
 // The same where neither number is negative.
-pub(crate) fn rounded_ratio(num: u64, den: u64) -> (i64, i64)
+pub(crate) fn rounded_ratio(num: u64, den: u64) -> Bounds
     requires some { 1 ≤ den }
     requires small { (num ≤ countable) × (den ≤ countable) }
     ensures { Rounded (in_steps (over (pos num) (pos den))) result }

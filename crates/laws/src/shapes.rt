@@ -1,28 +1,32 @@
 // The shapes of which stresses are made: a slope held between limits, and a step.
 ghost use Rattle.std.specs.Prelude.{◌≡◌, pos, ◌*ℤ◌, neg_ℤ, if◌then◌else◌};
 ghost use Rattle.std.specs.Int.{int_min, int_max};
-ghost use Rattle.exact.specs.Fractions.{whole, over, fraction_le, ◌*F◌, held};
+ghost use Rattle.exact.specs.Fractions.{whole as whole_of, over, fraction_le, ◌*F◌, held};
 ghost use Rattle.exact.specs.Ranges.{Within};
 ghost use Rattle.exact.specs.Rounding.{Rounded};
 ghost use Rattle.laws.specs.Meaning.{countable, greatest_axis, in_steps};
 
 use crate::ratio::Ratio;
-use crate::rounding::{in_steps, rounded};
+use crate::rounding::{in_steps, rounded, whole};
+use exact::bounds::Bounds;
 use exact::positive::Positive;
 
 // The rise in psi times the ratio, held between -tension and compression.
-pub(crate) fn held_slope(rise: u32, tension: u32, compression: u32, ratio: Ratio) -> (i64, i64)
-    ensures { Rounded (in_steps (held (whole (neg_ℤ (pos tension))) (whole (pos compression)) (whole (pos rise) *F over ratio.n ratio.m))) result }
+pub(crate) fn held_slope(rise: u32, tension: u32, compression: u32, ratio: Ratio) -> Bounds
+    ensures { Rounded (in_steps (held (whole_of (neg_ℤ (pos tension))) (whole_of (pos compression)) (whole_of (pos rise) *F over ratio.n ratio.m))) result }
 {
-    let (low, high) = slope(rise, ratio);
+    let bounds = slope(rise, ratio);
     let least = -in_steps(tension);
     let most = in_steps(compression);
-    (hold(low, least, most), hold(high, least, most))
+    Bounds {
+        floor: hold(bounds.floor, least, most),
+        ceiling: hold(bounds.ceiling, least, most),
+    }
 }
 
 // The rise in psi times the ratio.
-fn slope(rise: u32, ratio: Ratio) -> (i64, i64)
-    ensures { Rounded (in_steps (whole (pos rise) *F over ratio.n ratio.m)) result }
+fn slope(rise: u32, ratio: Ratio) -> Bounds
+    ensures { Rounded (in_steps (whole_of (pos rise) *F over ratio.n ratio.m)) result }
 {
     rounded(product(rise, ratio.n), Positive { value: ratio.m })
 }
@@ -35,13 +39,13 @@ fn hold(number: i64, least: i64, most: i64) -> i64
 }
 
 // 0 below so many thousandths, and full psi from there on.
-pub(crate) fn step(thousandths: u32, full: u32, ratio: Ratio) -> (i64, i64)
-    ensures { Rounded (in_steps (if fraction_le (over (pos thousandths) (pos 1000)) (over ratio.n ratio.m) then whole (pos full) else whole (pos 0))) result }
+pub(crate) fn step(thousandths: u32, full: u32, ratio: Ratio) -> Bounds
+    ensures { Rounded (in_steps (if fraction_le (over (pos thousandths) (pos 1000)) (over ratio.n ratio.m) then whole_of (pos full) else whole_of (pos 0))) result }
 {
     if reaches(thousandths, ratio) {
-        (in_steps(full), in_steps(full))
+        whole(full)
     } else {
-        (0, 0)
+        whole(0)
     }
 }
 

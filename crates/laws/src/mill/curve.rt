@@ -7,7 +7,8 @@ ghost use Rattle.laws.specs.Meaning.{greatest_axis, in_steps};
 ghost use Rattle.laws.specs.Rules.{in_limits, reading, rises, ruled};
 
 use crate::mill::point::Point;
-use crate::rounding::{in_steps, rounded_ratio};
+use crate::rounding::{rounded_ratio, whole};
+use exact::bounds::Bounds;
 
 // A ratio n / m of compression, or of tension with its sign turned.
 #[derive(Clone, Copy)]
@@ -20,7 +21,7 @@ pub(crate) struct Magnitude {
 }
 
 // The stress along the points.
-pub(crate) fn along(points: &[Point], ratio: Magnitude) -> (i64, i64)
+pub(crate) fn along(points: &[Point], ratio: Magnitude) -> Bounds
     requires { ruled (map reading points.now) ≡ true }
     ensures { Rounded (in_steps (curve points.now (over (pos ratio.n) (pos ratio.m)))) result }
 {
@@ -32,7 +33,7 @@ pub(crate) fn along(points: &[Point], ratio: Magnitude) -> (i64, i64)
         }
         last = next;
     }
-    (in_steps(last.stress), in_steps(last.stress))
+    whole(last.stress)
 }
 
 // Whether a point lies at the ratio or past it.
@@ -44,7 +45,7 @@ fn reaches(point: Point, ratio: Magnitude) -> bool
 }
 
 // The stress on the straight line from a to b.
-fn between(a: Point, b: Point, ratio: Magnitude) -> (i64, i64)
+fn between(a: Point, b: Point, ratio: Magnitude) -> Bounds
     requires rises { rises (reading a) (reading b) ≡ true }
     requires limits { in_limits (reading b) ≡ true }
     requires past { a.ratio * ratio.m ≤ ratio.n * 1000 }

@@ -1,9 +1,8 @@
 // The mill curve as a material law.
-ghost use Rattle.std.specs.Prelude.{◌≡◌, ℕ, ◌*◌, ◌^◌, ◌<◌, true, [], ◌∷◌, pos, neg_ℤ, if◌then◌else◌, int_le, slice_index_or};
-ghost use Rattle.exact.specs.Ranges.{Within};
+ghost use Rattle.std.specs.Prelude.{◌≡◌, ℕ, ◌*◌, ◌^◌, ◌<◌, true, [], ◌∷◌, pos, neg_ℤ, slice_index_or};
 ghost use Rattle.laws.specs.declared.mill.point.Point.{Point};
 ghost use Rattle.laws.specs.Curves.{last_stress, mill_stress};
-ghost use Rattle.laws.specs.Meaning.{countable, steps};
+ghost use Rattle.laws.specs.Meaning.{steps};
 ghost use Rattle.laws.specs.Mills.{MadeMill, points as points_of};
 ghost use Rattle.laws.specs.Rules.{in_limits, reading};
 ghost use Rattle.laws.specs.Owed.Milled.{mill_means};
@@ -17,6 +16,7 @@ use crate::mill::reading::Reading;
 use crate::mill::rules::keeps_rules;
 use crate::ratio::Ratio;
 use crate::rounding::in_steps;
+use exact::bounds::Bounds;
 
 impl Mill {
     // The curve through two to eight readings, or the fault 2.
@@ -87,14 +87,6 @@ fn unsigned(number: i64) -> u32
     u32::try_from(number).unwrap_or(0)
 }
 
-// A floor and a ceiling in compression as they are, or in tension with their sign turned.
-fn with_sign_of(n: i64, low: i64, high: i64) -> (i64, i64)
-    requires { Within countable low × Within countable high }
-    ensures { result ≡ (if int_le (pos 0) n then (low, high) else (neg_ℤ high, neg_ℤ low)) }
-{
-    if 0 <= n { (low, high) } else { (-high, -low) }
-}
-
 impl Material for Mill {
     ghost stress = { λ m. mill_stress (points_of m) };
 
@@ -104,13 +96,13 @@ impl Material for Mill {
 
     ghost means = { λ m. mill_means (points_of m) m.lawful };
 
-    fn stress_at(&self, ratio: Ratio) -> (i64, i64) {
+    fn stress_at(&self, ratio: Ratio) -> Bounds {
         let magnitude = Magnitude {
             n: ratio.n.unsigned_abs(),
             m: ratio.m.unsigned_abs(),
         };
-        let (low, high) = along(&self.fields()[..self.count], magnitude);
-        with_sign_of(ratio.n, low, high)
+        let bounds = along(&self.fields()[..self.count], magnitude);
+        if ratio.n < 0 { -bounds } else { bounds }
     }
 
     fn least(&self) -> i64 {

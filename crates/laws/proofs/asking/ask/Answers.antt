@@ -1,4 +1,4 @@
--- The promises follow from the law's meaning.
+-- A law's answer is between its limits and rises, since the law owes it.
 use Rattle.std.proofs.Common.{w64, SFits}
 use Rattle.std.proofs.lemmas.Int.{to_z-of_z}
 use Rattle.laws.specs.Meaning.{Answers}

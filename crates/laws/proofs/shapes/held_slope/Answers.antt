@@ -14,14 +14,14 @@ passed e i j k m = cc
 
 pub returns : goal.returns
 returns c =
-    let r = c.slope-low.result in
-    let f0 : SFits w64 r.0 = search rules in
-    let f1 : SFits w64 r.1 = search rules in
+    let r = c.slope-bounds.result in
+    let f0 : SFits w64 r.floor = search rules in
+    let f1 : SFits w64 r.ceiling = search rules in
     let g0 : SFits w64 c.hold.result = search rules in
     let g1 : SFits w64 c.hold-2.result = search rules in
     let t = steps_turned c.args.tension in
     let low : to_z w64 (of_z w64 (pos 0 -ℤ to_z w64 (of_z w64 c.in_steps-least.result))) ≡ pos steps *ℤ neg_ℤ (pos c.args.tension) = omega (arith, ints) in
     let high : to_z w64 (of_z w64 c.in_steps-most.result) ≡ pos steps *ℤ pos c.args.compression = omega (arith, ints) in
-    held_is _ (neg_ℤ (pos c.args.tension)) (pos c.args.compression) c.slope-low.ensures
-    (passed c.hold.ensures (to_z-of_z w64 r.0 f0) low high (to_z-of_z w64 c.hold.result g0))
-    (passed c.hold-2.ensures (to_z-of_z w64 r.1 f1) low high (to_z-of_z w64 c.hold-2.result g1))
+    held_is _ (neg_ℤ (pos c.args.tension)) (pos c.args.compression) c.slope-bounds.ensures
+    (passed c.hold.ensures (to_z-of_z w64 r.floor f0) low high (to_z-of_z w64 c.hold.result g0))
+    (passed c.hold-2.ensures (to_z-of_z w64 r.ceiling f1) low high (to_z-of_z w64 c.hold-2.result g1))
