@@ -2,6 +2,7 @@
 ghost use Rattle.answering.specs.Answering.{Answered};
 ghost use Rattle.questions.specs.Asked.{law_of, numbers_of};
 
+use exact::bounds::Bounds;
 use laws::asking::ask;
 use laws::block::Block;
 use laws::fault::Fault;
@@ -12,7 +13,7 @@ use questions::asked::Asked;
 use questions::question::Question;
 
 // The floor and the ceiling of the stress that a question asks for, or the fault.
-pub(crate) fn answer(question: &Question) -> Result<(i64, i64), Fault>
+pub(crate) fn answer(question: &Question) -> Result<Bounds, Fault>
     ensures { Answered (law_of question.now.asked) (numbers_of question.now.asked) question.now.n question.now.m result }
 {
     let (n, m) = (question.n, question.m);
