@@ -4,14 +4,12 @@ use Rattle.std.proofs.lemmas.List.{append_assoc}
 use Rattle.text.specs.Figures.{Figures}
 use Rattle.text.proofs.Readings.{one_number}
 use Rattle.questions.specs.declared.law.Law.{Law}
-use Rattle.questions.specs.Questions.{Asks, At, Leading, NoNumberFirst, NumberFirst, Takes, Two, Written, name_of}
+use Rattle.questions.specs.Questions.{Asks, AsksNothing, At, Leading, NoNumberFirst, NumberFirst, Takes, Two, Written, name_of}
 
 pub leading_none : (ps : List (List ℕ)) (zs : List ℤ) → zs ≡ [] → Leading ps zs ps
-unfolding Written
 leading_none ps zs e = record { figures = []; cut = refl; written = rw e tt }
 
 written_push : (ps : List (List ℕ)) (zs : List ℤ) (p : List ℕ) (z : ℤ) → Written ps zs → Figures p z → Written (ps ++ p ∷ []) (zs ++ z ∷ [])
-unfolding Written
 written_push [] [] p z h f = (f, tt)
 written_push [] (y ∷ zs) p z h f = absurd h
 written_push (q ∷ ps) [] p z h f = absurd h
@@ -28,7 +26,6 @@ leading_more ps rest more zs ys z h f e =
 
 -- the numbers end where no figures follow
 one_leading : (fs gs ks ls : List (List ℕ)) (zs ys : List ℤ) → fs ++ ks ≡ gs ++ ls → Written fs zs → Written gs ys → NoNumberFirst ks → NoNumberFirst ls → (zs ≡ ys) × (ks ≡ ls)
-unfolding Written
 one_leading [] [] ks ls [] [] e h g none no_more = (refl, e)
 one_leading [] [] ks ls [] (y ∷ ys) e h g none no_more = absurd g
 one_leading [] [] ks ls (z ∷ zs) ys e h g none no_more = absurd h
@@ -72,13 +69,21 @@ at_two ps rest None e h = λ n m a. let q = a.1 in let same : a.0 ≡ rest = cc 
 at_two ps rest (Some p) e h = (rest, e, h)
 
 -- what a line asks is what was read of it
-pub asked_read : (ps head rest : List (List ℕ)) (law : Law) (zs : List ℤ) → ps ≡ name_of law ∷ head → Leading head zs rest → NoNumberFirst rest → (l : Law) (ys : List ℤ) (n m : ℤ) → Asks ps l ys n m → Takes law zs × At rest n m
-asked_read ps head rest law zs p h none l ys n m a =
+asked_read : (ps head rest : List (List ℕ)) (name : List ℕ) (law : Law) (zs : List ℤ) → ps ≡ name ∷ head → name ≡ name_of law → Leading head zs rest → NoNumberFirst rest → (l : Law) (ys : List ℤ) (n m : ℤ) → Asks ps l ys n m → Takes law zs × At rest n m
+asked_read ps head rest name law zs p e h none l ys n m a =
     let q = a.cut in
     let names : name_of l ≡ name_of law = cc in
     let heads : h.figures ++ rest ≡ a.numbers ++ a.place = let c = h.cut in cc in
     let same = one_leading h.figures a.numbers rest a.place zs ys heads h.written a.written none (at_ends a.place n m a.at) in
     (subst (λ k. Takes k zs) (one_law l law names) (subst (Takes l) (sym same.0) a.takes), subst (λ ks. At ks n m) (sym same.1) a.at)
+
+-- where `at` and two numbers do not follow the numbers, nothing is asked
+pub not_at : (ps head rest : List (List ℕ)) (name : List ℕ) (law : Law) (zs : List ℤ) → ps ≡ name ∷ head → name ≡ name_of law → Leading head zs rest × NoNumberFirst rest → ((n m : ℤ) → At rest n m → ⊥) → AsksNothing ps
+not_at ps head rest name law zs p e h none = λ l ys n m a. none n m (asked_read ps head rest name law zs p e h.0 h.1 l ys n m a).1
+
+-- nor where the law does not take the numbers
+pub not_taken : (ps head rest : List (List ℕ)) (name : List ℕ) (law : Law) (zs : List ℤ) → ps ≡ name ∷ head → name ≡ name_of law → Leading head zs rest × NoNumberFirst rest → (Takes law zs → ⊥) → AsksNothing ps
+not_taken ps head rest name law zs p e h none = λ l ys n m a. none (asked_read ps head rest name law zs p e h.0 h.1 l ys n m a).0
 
 one_first : (ps rest more : List (List ℕ)) (y z : ℤ) → NumberFirst ps y rest → NumberFirst ps z more → (y ≡ z) × (rest ≡ more)
 one_first ps rest more y z h g =
