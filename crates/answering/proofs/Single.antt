@@ -1,5 +1,5 @@
 -- A text has one text of replies.
-use Rattle.std.proofs.Common.{◌≡◌, ℕ, List, [], ◌∷◌, ◌++◌, ℤ, IfOk, Some, None, Ok, Err, codes, decimal, Option, Result, sym, refl, ap, ◌∙◌, subst, arith}
+use Rattle.std.proofs.Common.{◌≡◌, ℕ, List, [], ◌∷◌, ◌++◌, ℤ, Some, None, Ok, Err, codes, decimal, Option, Result, sym, refl, ap, ◌∙◌, subst, arith}
 use Rattle.std.proofs.lemmas.Bool.{both_ways}
 use Rattle.exact.specs.declared.bounds.Bounds.{Bounds}
 use Rattle.exact.specs.Fractions.{Fraction}
@@ -73,8 +73,7 @@ answered_one Mill zs n m r s h g = readings_one (paired zs) n m r s h g
 line_one : (line : List ℕ) (r s : Result Bounds Fault) → LineAnswered line r → LineAnswered line s → reply_text (told r) ≡ reply_text (told s)
 line_one line r s a b =
     let q = one_question (pieces line) b.law a.law b.numbers a.numbers b.n b.m a.n a.m b.asks a.asks in
-    answered_one a.law a.numbers a.n a.m r s a.answered
-    (subst (λ k. Answered k a.numbers a.n a.m s) q.0 (subst (λ zs. Answered b.law zs a.n a.m s) q.1 (subst (λ z. Answered b.law b.numbers z a.m s) q.2 (subst (λ z. Answered b.law b.numbers b.n z s) q.3 b.answered))))
+    answered_one a.law a.numbers a.n a.m r s a.answered (rw (q.0, q.1, q.2, q.3) at b.answered)
 
 -- what is printed for a line, by the three kinds of lines
 data Said (line bytes : List ℕ) : Type 0 where
@@ -112,6 +111,5 @@ lines_one (l ∷ ls) xs ys h g =
     let rest = lines_one ls h.1 g.1 h.4 g.4 in
     h.2 ∙ (ap (λ t. t ++ h.1) first ∙ (ap (λ t. g.0 ++ t) rest ∙ sym g.2))
 
-pub replies_one : {S E : Type 0} (bytes_of : S → List ℕ) (text : List ℕ) (r : Result S E) → IfOk r (λ s. RepliedAll text (bytes_of s)) → IfOk r (λ s. (bytes : List ℕ) → RepliedAll text bytes → bytes ≡ bytes_of s)
-replies_one bytes_of text (Ok s) h = λ bytes g. lines_one (lines_of text) bytes (bytes_of s) g h
-replies_one bytes_of text (Err e) h = tt
+pub replies_one : (text replies : List ℕ) → RepliedAll text replies → (bytes : List ℕ) → RepliedAll text bytes → bytes ≡ replies
+replies_one text replies h bytes g = lines_one (lines_of text) bytes replies g h

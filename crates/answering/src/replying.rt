@@ -11,13 +11,6 @@ pub fn reply(heap: Global, text: &[u8]) -> Result<String, AllocError>
     ensures replied { IfOk result (λ s. RepliedAll text.now (string_bytes s)) }
     ensures only { IfOk result (λ s. (bytes : List ℕ) → RepliedAll text.now bytes → bytes ≡ string_bytes s) }
 {
-    reply_lines(heap, text)
-}
-
-// The replies alone.
-fn reply_lines(heap: Global, text: &[u8]) -> Result<String, AllocError>
-    ensures { IfOk result (λ s. RepliedAll text.now (string_bytes s)) }
-{
     let mut replies = String::new(heap);
     let mut rest = text;
     while !rest.is_empty() {
