@@ -1,5 +1,5 @@
 -- A text has one text of replies.
-use Rattle.std.proofs.Common.{◌≡◌, ℕ, List, [], ◌∷◌, ◌++◌, ℤ, Some, None, Ok, Err, codes, decimal, Option, Result, sym, refl, ap, ◌∙◌, subst, arith}
+use Rattle.std.proofs.Common.{◌≡◌, ℕ, List, [], ◌∷◌, ◌++◌, ℤ, Some, None, Ok, Err, codes, decimal, Option, Result, sym, refl, ap, ◌∙◌, arith}
 use Rattle.std.proofs.lemmas.Bool.{both_ways}
 use Rattle.exact.specs.declared.bounds.Bounds.{Bounds}
 use Rattle.exact.specs.Fractions.{Fraction}
@@ -30,38 +30,39 @@ abbrev told : Result Bounds Fault → Reply
 told (Ok bounds) = Stress bounds
 told (Err e) = Refused e
 
-refused_one : (k l : ℕ) (r s : Result Bounds Fault) → RefusedBy k r → RefusedBy l s → k ≡ l → reply_text (told r) ≡ reply_text (told s)
-refused_one k l r s h g e =
-    let same : refusal h.0 ≡ refusal g.0 = h.2 ∙ (e ∙ sym g.2) in
+refused_one : (k : ℕ) (r s : Result Bounds Fault) → RefusedBy k r → RefusedBy k s → reply_text (told r) ≡ reply_text (told s)
+refused_one k r s h g =
+    let same : refusal h.0 ≡ refusal g.0 = cc in
     rw (h.1, g.1) (ap (λ k. codes "refused " ++ decimal k) same)
 
 answers_one : (f : Fraction → Fraction) (n m : ℤ) (r s : Result Bounds Fault) → Answers f n m r → Answers f n m s → reply_text (told r) ≡ reply_text (told s)
 answers_one f n m (Ok a) (Ok b) h g = ap (λ c. reply_text (Stress c)) (rounded_one h.1 g.1)
 answers_one f n m (Ok a) (Err e) h g = absurd (g.0 h.0)
 answers_one f n m (Err e) (Ok b) h g = absurd (h.0 g.0)
-answers_one f n m (Err d) (Err e) h g = refused_one 3 3 (Err d) (Err e) (d, refl, h.1) (e, refl, g.1) refl
+answers_one f n m (Err d) (Err e) h g = refused_one 3 (Err d) (Err e) (d, refl, h.1) (e, refl, g.1)
 
 strength_one : (Grade : ℕ → Type 0) (stress : ℕ → Fraction → Fraction) (given n m : ℤ) (r s : Result Bounds Fault) → OfStrength Grade stress given n m r → OfStrength Grade stress given n m s → reply_text (told r) ≡ reply_text (told s)
 strength_one Grade stress given n m r s (graded psi e g a) (graded phi f h b) =
     let same : phi ≡ psi = cc in
-    answers_one (stress psi) n m r s a (subst (λ k. Answers (stress k) n m s) same b)
+    answers_one (stress psi) n m r s a (rw same at b)
 strength_one Grade stress given n m r s (graded psi e g a) (ungraded none b) = absurd (none psi e g)
 strength_one Grade stress given n m r s (ungraded none a) (graded phi f h b) = absurd (none phi f h)
-strength_one Grade stress given n m r s (ungraded none a) (ungraded nor b) = refused_one 1 1 r s a b refl
+strength_one Grade stress given n m r s (ungraded none a) (ungraded nor b) = refused_one 1 r s a b
 
 readings_one : (rs : List Reading) (n m : ℤ) (r s : Result Bounds Fault) → OfReadings rs n m r → OfReadings rs n m s → reply_text (told r) ≡ reply_text (told s)
 readings_one rs n m r s (keeping ps e k a) (keeping qs f l b) =
-    answers_one (mill_stress ps) n m r s a (subst (λ us. Answers (mill_stress us) n m s) (one_curve qs ps (sym f ∙ e)) b)
+    let same : qs ≡ ps = one_curve qs ps (sym f ∙ e) in
+    answers_one (mill_stress ps) n m r s a (rw same at b)
 readings_one rs n m r s (keeping ps e k a) (breaking l b) = absurd (both_ways (ruled rs) l k)
 readings_one rs n m r s (breaking k a) (keeping qs f l b) = absurd (both_ways (ruled rs) k l)
-readings_one rs n m r s (breaking k a) (breaking l b) = refused_one 2 2 r s a b refl
+readings_one rs n m r s (breaking k a) (breaking l b) = refused_one 2 r s a b
 
 numbered_one : (Grade : ℕ → Type 0) (stress : ℕ → Fraction → Fraction) (zs : List ℤ) (n m : ℤ) (r s : Result Bounds Fault) → (z : ℤ) × (zs ≡ z ∷ []) × OfStrength Grade stress z n m r → (z : ℤ) × (zs ≡ z ∷ []) × OfStrength Grade stress z n m s → reply_text (told r) ≡ reply_text (told s)
 numbered_one Grade stress zs n m r s h g =
     let p = h.1 in
     let q = g.1 in
     let same : g.0 ≡ h.0 = cc in
-    strength_one Grade stress h.0 n m r s h.2 (subst (λ z. OfStrength Grade stress z n m s) same g.2)
+    strength_one Grade stress h.0 n m r s h.2 (rw same at g.2)
 
 answered_one : (law : Law) (zs : List ℤ) (n m : ℤ) (r s : Result Bounds Fault) → Answered law zs n m r → Answered law zs n m s → reply_text (told r) ≡ reply_text (told s)
 answered_one Block zs n m r s h g = numbered_one ConcreteGrade block_stress zs n m r s h g
