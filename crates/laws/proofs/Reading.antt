@@ -1,102 +1,80 @@
--- Readings that keep the rules are those of points, and these stand in eight fields.
-use Rattle.std.proofs.Common.{◌≡◌, ℕ, zero, suc, ◌≤◌, true, List, [], ◌∷◌, map, length, get_or, take, ℤ, pos, negsuc, nat_abs, ◌≤ℤ◌, sym, refl, ap, subst, arith}
+-- Readings that keep the rules are those of points, and sorted readings climb.
+use Rattle.std.proofs.Common.{◌≡◌, ℕ, zero, suc, ◌+◌, ◌-◌, ◌<◌, ◌≤◌, Bool, true, false, ◌&&◌, List, [], ◌∷◌, length, get_or, ℤ, pos, negsuc, nat_abs, ◌≤ℤ◌, sym, refl, arith}
+use native.Mathlib.Numerals.{unary_clauses}
 use borrow.Author.Differences.{ints}
-use Rattle.std.proofs.Math.ListN.{length-map, get_or-map}
 use Rattle.std.proofs.lemmas.Bool.Decides.{nat_tests}
+use Rattle.std.specs.Prelude.{nat_le}
+use Rattle.std.specs.List.{IsAllAdjacentAnswer}
 use Rattle.laws.specs.declared.mill.point.Point.{Point}
 use Rattle.laws.specs.declared.mill.reading.Reading.{Reading}
-use Rattle.laws.specs.Rules.{reading, in_limits, climbs, ruled}
-use Rattle.laws.specs.Owed.Bent.{first, limited, climbs_more}
+use Rattle.laws.specs.Meaning.{farthest, greatest_ratio}
+use Rattle.laws.specs.Rules.{reading, is_origin, rises, in_limits, climbs, ruled}
 
-abbrev pub origin : Point
-origin = record { ratio = 0; stress = 0 }
-
--- a reading without a negative number is that of a point
+-- a whole number without a sign
 natural : (z : ℤ) → pos 0 ≤ℤ z → z ≡ pos (nat_abs z)
 natural (pos n) h = refl
 natural (negsuc n) h = absurd (omega (arith, ints))
 
-abbrev point : Reading → Point
-point r = record { ratio = nat_abs r.ratio; stress = nat_abs r.stress }
+-- r is read of a point
+abbrev pub IsRead : Reading → Type 0
+IsRead r = (p : Point) × (r ≡ reading p)
 
-point_is : (r : Reading) → pos 0 ≤ℤ r.ratio → pos 0 ≤ℤ r.stress → r ≡ reading (point r)
-point_is r h g = same (natural r.ratio h) (natural r.stress g) where
+-- so is one that is neither negative nor past a limit
+read : (r : Reading) → pos 0 ≤ℤ r.ratio → pos 0 ≤ℤ r.stress → in_limits r ≡ true → IsRead r
+read r h g l = (record { ratio = nat_abs r.ratio; stress = nat_abs r.stress; near = near; weak = weak }, same (natural r.ratio h) (natural r.stress g)) where
+  near : nat_abs r.ratio ≤ greatest_ratio
+  near = let e = natural r.ratio h in grind (arith, ints, nat_tests)
+
+  weak : nat_abs r.stress ≤ farthest
+  weak = let e = natural r.stress g in grind (arith, ints, nat_tests)
+
   same : {x y u v : ℤ} → x ≡ u → y ≡ v → ◌≡◌ {A = Reading} (record { ratio = x; stress = y }) (record { ratio = u; stress = v })
   same e f = cc
 
--- so are all that climb from one
-abbrev Read : List Reading → Type 0
-Read rs = (ps : List Point) × (rs ≡ map reading ps)
+-- what climbs is in its limits
+limited : (a : Reading) (rs : List Reading) → climbs a rs ≡ true → in_limits a ≡ true
+limited a [] h = h
+limited a (b ∷ rs) h = let l = limited b rs (grind (arith, nat_tests)) in grind (arith, ints, nat_tests)
 
-read_more : (b : Reading) (rs : List Reading) → pos 0 ≤ℤ b.ratio → pos 0 ≤ℤ b.stress → Read rs → Read (b ∷ rs)
-read_more b rs h g w = (point b ∷ w.0, onto (point_is b h g) w.1) where
-  onto : {a b : Reading} {rs ss : List Reading} → a ≡ b → rs ≡ ss → ◌≡◌ {A = List Reading} (a ∷ rs) (b ∷ ss)
-  onto e f = cc
-
-climbing : (a : Reading) (rs : List Reading) → pos 0 ≤ℤ a.ratio → pos 0 ≤ℤ a.stress → climbs a rs ≡ true → Read rs
-climbing a [] h g k = ([], refl)
-climbing a (b ∷ rs) h g k =
+climbing : (a : Reading) (rs : List Reading) → pos 0 ≤ℤ a.ratio → pos 0 ≤ℤ a.stress → climbs a rs ≡ true → (i : ℕ) (d : Reading) → i < length rs + 1 → IsRead (get_or (a ∷ rs) i d)
+climbing a rs h g k zero d l = read a h g (limited a rs k)
+climbing a [] h g k (suc i) d l = absurd (omega arith)
+climbing a (b ∷ rs) h g k (suc i) d l =
     let r : pos 0 ≤ℤ b.ratio = grind (arith, ints, nat_tests) in
     let s : pos 0 ≤ℤ b.stress = grind (arith, ints, nat_tests) in
-    read_more b rs r s (climbing b rs r s (grind (arith, ints, nat_tests)))
+    climbing b rs r s (grind (arith, ints, nat_tests)) i d (omega arith)
 
-points_read : (rs : List Reading) → ruled rs ≡ true → Read rs
-points_read [] h = ([], refl)
-points_read (a ∷ rs) h =
+pub each_read : (rs : List Reading) → ruled rs ≡ true → (i : ℕ) (d : Reading) → i < length rs → IsRead (get_or rs i d)
+each_read [] h i d l = absurd (omega arith)
+each_read (a ∷ rs) h i d l =
     let r : pos 0 ≤ℤ a.ratio = grind (arith, ints, nat_tests) in
     let s : pos 0 ≤ℤ a.stress = grind (arith, ints, nat_tests) in
-    read_more a rs r s (climbing a rs r s (grind (arith, ints, nat_tests)))
+    climbing a rs r s (grind (arith, ints, nat_tests)) i d (omega arith)
 
--- none of the points goes past a limit
-limited_from : (a : Point) (ps : List Point) → climbs (reading a) (map reading ps) ≡ true → (i : ℕ) → in_limits (reading (get_or (a ∷ ps) i origin)) ≡ true
-limited_from a ps h zero = limited a ps h
-limited_from a [] h (suc i) = refl
-limited_from a (b ∷ ps) h (suc i) = limited_from b ps (climbs_more a b ps h).rest i
+-- each rises to the next, or one does not
+abbrev pub Sorted : List Reading → Bool → Type 0
+Sorted rs b = IsAllAdjacentAnswer (λ x y t. t ≡ rises x y) rs b
 
-limited_at : (ps : List Point) → ruled (map reading ps) ≡ true → (i : ℕ) → in_limits (reading (get_or ps i origin)) ≡ true
-limited_at [] h i = refl
-limited_at (a ∷ ps) h i = limited_from a ps (first a ps h).rest i
+and_false : (b : Bool) → (b && false) ≡ false
+and_false true = refl
+and_false false = refl
 
--- at most eight points are the first of eight fields
-eight : (ps : List Point) → length ps ≤ 8 → take (length ps) (get_or ps 0 origin ∷ get_or ps 1 origin ∷ get_or ps 2 origin ∷ get_or ps 3 origin ∷ get_or ps 4 origin ∷ get_or ps 5 origin ∷ get_or ps 6 origin ∷ get_or ps 7 origin ∷ []) ≡ ps
-eight [] h = refl
-eight (a ∷ []) h = refl
-eight (a ∷ b ∷ []) h = refl
-eight (a ∷ b ∷ c ∷ []) h = refl
-eight (a ∷ b ∷ c ∷ d ∷ []) h = refl
-eight (a ∷ b ∷ c ∷ d ∷ e ∷ []) h = refl
-eight (a ∷ b ∷ c ∷ d ∷ e ∷ f ∷ []) h = refl
-eight (a ∷ b ∷ c ∷ d ∷ e ∷ f ∷ g ∷ []) h = refl
-eight (a ∷ b ∷ c ∷ d ∷ e ∷ f ∷ g ∷ i ∷ []) h = refl
-eight (a ∷ b ∷ c ∷ d ∷ e ∷ f ∷ g ∷ i ∷ j ∷ ps) h = absurd (omega arith)
+-- which decides with the last one whether they climb
+climbs_is : (a : Reading) (rs : List Reading) (d : Reading) (b : Bool) → Sorted (a ∷ rs) b → climbs a rs ≡ (b && in_limits (get_or (a ∷ rs) (length rs) d))
+climbs_is a [] d true h = refl
+climbs_is a [] d false h = absurd (let l = h.1 in omega arith)
+climbs_is a (b ∷ rs) d true h =
+    let e = h 0 d (omega arith) in
+    rw (sym e) (climbs_is b rs d true (λ k d l. simp unary_clauses (simp unary_clauses at (h (suc k) d (omega arith)))))
+climbs_is a (b ∷ rs) d false h = unsorted h.0 h.1 h.2 (λ k l e. climbs_is b rs d false (k, l, e)) where
+  unsorted : (k : ℕ) → k + 1 < length (a ∷ b ∷ rs) → ((d : Reading) → false ≡ rises (get_or (a ∷ b ∷ rs) k d) (get_or (a ∷ b ∷ rs) (k + 1) d)) → ((k : ℕ) → k + 1 < length (b ∷ rs) → ((d : Reading) → false ≡ rises (get_or (b ∷ rs) k d) (get_or (b ∷ rs) (k + 1) d)) → climbs b rs ≡ false) → (rises a b && climbs b rs) ≡ false
+  unsorted zero l e more = rw (sym (e d)) refl
+  unsorted (suc k) l e more = rw (more k (omega arith) (λ d. simp unary_clauses (simp unary_clauses at (e d)))) (and_false (rises a b))
 
--- p is the point read at a place
-abbrev pub ReadAt : List Reading → ℕ → Point → Type 0
-ReadAt rs i p = (q : Point) → in_limits (reading q) ≡ true → get_or rs i (record { ratio = pos 0; stress = pos 0 }) ≡ reading q → p ≡ q
+pub ruled_is : (rs : List Reading) (d : Reading) (b : Bool) → Sorted rs b → ruled rs ≡ ((nat_le 2 (length rs) && nat_le (length rs) 8) && (is_origin (get_or rs 0 d) && (b && in_limits (get_or rs (length rs - 1) d))))
+ruled_is [] d b h = refl
+ruled_is (a ∷ rs) d b h = rw (climbs_is a rs d b h) (simp unary_clauses)
 
--- the points read at the first eight places are those of the readings
-module _ (a b c d e f g h : Point) where
-  pub record ReadFields (rs : List Reading) : Type 0 where
-    pub first : ReadAt rs 0 a
-    pub second : ReadAt rs 1 b
-    pub third : ReadAt rs 2 c
-    pub fourth : ReadAt rs 3 d
-    pub fifth : ReadAt rs 4 e
-    pub sixth : ReadAt rs 5 f
-    pub seventh : ReadAt rs 6 g
-    pub eighth : ReadAt rs 7 h
-
-  abbrev AreRead : List Reading → Type 0
-  AreRead rs = ruled rs ≡ true → ReadFields rs → (length rs ≤ 8) × (map reading (take (length rs) (a ∷ b ∷ c ∷ d ∷ e ∷ f ∷ g ∷ h ∷ [])) ≡ rs)
-
-  points_are_read : (ps : List Point) → AreRead (map reading ps)
-  points_are_read ps k r =
-      let l : length (map reading ps) ≤ 8 = grind (arith, nat_tests) in
-      let m = length-map ps reading in
-      (l, rw (m, is 0 r.first, is 1 r.second, is 2 r.third, is 3 r.fourth, is 4 r.fifth, is 5 r.sixth, is 6 r.seventh, is 7 r.eighth) (ap (map reading) (eight ps (subst (λ n. n ≤ 8) m l))))
-    where
-      is : {p : Point} (i : ℕ) → ReadAt (map reading ps) i p → p ≡ get_or ps i origin
-      is i r = r (get_or ps i origin) (limited_at ps k i) (get_or-map reading ps i origin)
-
-  pub are_read : (rs : List Reading) → AreRead rs
-  are_read rs k = let p = points_read rs k in subst AreRead (sym p.1) (points_are_read p.0) k
+pub not_from_origin : (rs : List Reading) (d : Reading) → is_origin (get_or rs 0 d) ≡ false → ruled rs ≡ false
+not_from_origin [] d h = refl
+not_from_origin (a ∷ rs) d h = rw h (and_false _)

@@ -7,8 +7,9 @@ use Rattle.exact.specs.Rounding.{Rounded}
 use Rattle.laws.specs.declared.mill.point.Point.{Point}
 use Rattle.laws.specs.Curves.{beyond, curve}
 use Rattle.laws.specs.Meaning.{in_steps}
-use Rattle.laws.specs.Rules.{reading, in_limits, climbs}
-use Rattle.laws.specs.Owed.Bent.{Climbs, climbs_more, limited}
+use Rattle.laws.specs.Rules.{reading, climbs}
+use Rattle.laws.specs.Owed.Bent.{climbs_more}
+use Rattle.laws.specs.Owed.Straight.{Leads, leads}
 
 -- from `last` on, past which the ratio n / m is, the rest is the curve's
 pub record Ahead (ps : List Point) (n m : ℕ) (last : Point) (rest : List Point) : Type 0 where
@@ -16,25 +17,22 @@ pub record Ahead (ps : List Point) (n m : ℕ) (last : Point) (rest : List Point
   pub rules : climbs (reading last) (map reading rest) ≡ true
   pub past : last.ratio * m ≤ n * 1000
 
--- at the place i of the points ps, a being the point before
-module _ (n m : ℕ) (ps : List Point) (a : Point) (i : ℕ) (w : Ahead ps n m a (drop i ps)) where
+-- at the place i of the points qs that are left, a being the point before
+module _ (n m : ℕ) (ps qs : List Point) (a : Point) (i : ℕ) (w : Ahead ps n m a (drop i qs)) where
   abbrev ratio : Fraction
   ratio = over (pos n) (pos m)
 
-  module _ (d : Point) (h : i < length ps) where
+  module _ (d : Point) (h : i < length qs) where
     abbrev b : Point
-    b = get_or ps i d
+    b = get_or qs i d
 
-    here : Ahead ps n m a (b ∷ drop (i + 1) ps)
-    here = subst (Ahead ps n m a) (drop_more ps i d h) w
+    pub here : Ahead ps n m a (b ∷ drop (i + 1) qs)
+    here = subst (Ahead ps n m a) (drop_more qs i d h) w
 
-    more : Climbs a b (drop (i + 1) ps)
-    more = climbs_more a b (drop (i + 1) ps) here.rules
+    pub ahead_leads : Leads a b
+    ahead_leads = leads a b (climbs_more a b (drop (i + 1) qs) here.rules).rise
 
-    pub ahead_limited : in_limits (reading b) ≡ true
-    ahead_limited = limited b (drop (i + 1) ps) more.rest
-
-  pub ahead_end : {r : Bounds} → length ps ≤ i → Rounded (in_steps (whole (pos a.stress))) r → Rounded (in_steps (curve ps ratio)) r
+  pub ahead_end : {r : Bounds} → length qs ≤ i → Rounded (in_steps (whole (pos a.stress))) r → Rounded (in_steps (curve ps ratio)) r
   ahead_end {r} h e =
-      let v = subst (Ahead ps n m a) (drop_all i ps h) w in
+      let v = subst (Ahead ps n m a) (drop_all i qs h) w in
       subst (λ (u : Fraction). Rounded (in_steps u) r) v.curve e

@@ -22,6 +22,10 @@ farthest = 100000
 abbrev pub strongest : ℕ
 strongest = 10000
 
+-- no point of a mill curve has a greater ratio, in thousandths
+abbrev pub greatest_ratio : ℕ
+greatest_ratio = 100000
+
 -- A strain ratio is the strain over the crushing strain 0.003, compression positive; it is at most 1. f gives the exact
 -- stress in psi at each ratio. It is a law where it never falls as the ratio grows, and stays from a least to a most:
 -- whole numbers of steps, the least from -100,000 psi to 0, the most from 0 to 100,000 psi.

@@ -1,24 +1,21 @@
 -- Which readings are the points of a mill curve.
-use Rattle.std.specs.Prelude.{ℕ, Bool, false, ◌&&◌, List, [], ◌∷◌, length, pos, int_le, int_lt, nat_le}
+use Rattle.std.specs.Prelude.{Bool, false, ◌&&◌, List, [], ◌∷◌, length, pos, int_le, int_lt, nat_le}
+use Rattle.std.specs.Ordering.{int_eq}
 use Rattle.laws.specs.declared.mill.point.Point.{Point}
 use Rattle.laws.specs.declared.mill.reading.Reading.{Reading}
-use Rattle.laws.specs.Meaning.{farthest}
+use Rattle.laws.specs.Meaning.{farthest, greatest_ratio}
 
 -- what a point was read as
 abbrev pub reading : Point → Reading
 reading p = record { ratio = pos p.ratio; stress = pos p.stress }
 
--- ratio 0 and stress 0, each told by being at most 0 and at least 0
+-- ratio 0 and stress 0
 abbrev pub is_origin : Reading → Bool
-is_origin a = (int_le a.ratio (pos 0) && int_le (pos 0) a.ratio) && (int_le a.stress (pos 0) && int_le (pos 0) a.stress)
+is_origin a = int_eq a.ratio (pos 0) && int_eq a.stress (pos 0)
 
 -- the ratio rises from a to b, and the stress does not fall
 abbrev pub rises : Reading → Reading → Bool
 rises a b = int_lt a.ratio b.ratio && int_le a.stress b.stress
-
--- no point has a greater ratio, in thousandths
-abbrev pub greatest_ratio : ℕ
-greatest_ratio = 100000
 
 -- neither the ratio nor the stress goes past its limit
 abbrev pub in_limits : Reading → Bool

@@ -1,27 +1,98 @@
 // Steel by the curve of two to eight points that its mill has measured.
-ghost use Rattle.std.specs.Prelude.{◌≡◌, ◌≤◌, true, [], ◌∷◌, map, take};
+ghost use Rattle.std.specs.Prelude.{◌≡◌, ◌*◌, ◌≤◌, true, map, take, pos, neg_ℤ};
+ghost use Rattle.laws.specs.Curves.{last_stress, mill_stress};
+ghost use Rattle.laws.specs.Meaning.{steps};
 ghost use Rattle.laws.specs.Rules.{reading, ruled};
+ghost use Rattle.laws.specs.Owed.Milled.{mill_means};
 
+use crate::fault::Fault;
+use crate::material::Material;
+use crate::mill::curve::{Magnitude, along};
 use crate::mill::point::Point;
+use crate::mill::reading::Reading;
+use crate::mill::rules::keeps_rules;
+use crate::ratio::Ratio;
+use crate::rounding::in_steps;
+use exact::bounds::Bounds;
 
 mod curve;
-pub mod law;
 pub mod point;
 pub mod reading;
 mod rules;
 
-// The first `count` points are the curve's.
+/// The most points of a curve.
+pub const MOST: usize = 8;
+
+/// A mill curve through the first `count` of the points.
 #[derive(Clone, Copy)]
 pub struct Mill {
+    pub points: [Point; MOST],
+    // a count beside the array: a curve is copied and takes no memory of its own
     pub count: usize,
-    pub first: Point,
-    pub second: Point,
-    pub third: Point,
-    pub fourth: Point,
-    pub fifth: Point,
-    pub sixth: Point,
-    pub seventh: Point,
-    pub eighth: Point,
     ghost few: { count ≤ 8 },
-    ghost lawful: { ruled (map reading (take count (first ∷ second ∷ third ∷ fourth ∷ fifth ∷ sixth ∷ seventh ∷ eighth ∷ []))) ≡ true },
+    ghost lawful: { ruled (map reading (take count points)) ≡ true },
+}
+
+impl Mill {
+    ghost use Rattle.laws.specs.Mills.{MadeMill, points as points_of};
+
+    /// The curve through two to eight readings, or the fault 2.
+    pub fn new(readings: &[Reading]) -> Result<Mill, Fault>
+        ensures { MadeMill readings.now result }
+    {
+        if !keeps_rules(readings) {
+            return Err(Fault::Points);
+        }
+        let mut points = [Point::ORIGIN; MOST];
+        for (i, &reading) in readings.iter().enumerate() {
+            points[i] = Point::try_from(reading)?;
+        }
+        Ok(Mill {
+            points,
+            count: readings.len(),
+        })
+    }
+
+    // The points of the curve.
+    fn measured(&self) -> &[Point]
+        ensures { result.now ≡ points_of self.now }
+    {
+        &self.points[..self.count]
+    }
+
+    // The stress of the last point, in psi.
+    fn last_stress(&self) -> u32
+        ensures { result ≡ last_stress (points_of self.now) }
+    {
+        self.points[self.count - 1].stress
+    }
+}
+
+impl Material for Mill {
+    ghost use Rattle.laws.specs.Mills.{points as points_of};
+
+    ghost stress = { λ m. mill_stress (points_of m) };
+
+    ghost lowest = { λ m. neg_ℤ (pos (steps * last_stress (points_of m))) };
+
+    ghost highest = { λ m. pos (steps * last_stress (points_of m)) };
+
+    ghost means = { λ m. mill_means (points_of m) m.lawful };
+
+    fn stress_at(&self, ratio: Ratio) -> Bounds {
+        let magnitude = Magnitude {
+            n: ratio.n.unsigned_abs(),
+            m: ratio.m.unsigned_abs(),
+        };
+        let bounds = along(self.measured(), magnitude);
+        if ratio.n < 0 { -bounds } else { bounds }
+    }
+
+    fn least(&self) -> i64 {
+        -in_steps(self.last_stress())
+    }
+
+    fn most(&self) -> i64 {
+        in_steps(self.last_stress())
+    }
 }

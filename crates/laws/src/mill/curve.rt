@@ -1,10 +1,10 @@
 // The stress along the points of a mill curve, in compression.
-ghost use Rattle.std.specs.Prelude.{◌≡◌, ◌*◌, ◌≤◌, true, map, pos};
+ghost use Rattle.std.specs.Prelude.{◌≡◌, ◌*◌, ◌<◌, ◌≤◌, true, map, pos};
 ghost use Rattle.exact.specs.Fractions.{over, fraction_le};
 ghost use Rattle.exact.specs.Rounding.{Rounded};
 ghost use Rattle.laws.specs.Curves.{at, curve, line};
 ghost use Rattle.laws.specs.Meaning.{greatest_axis, in_steps};
-ghost use Rattle.laws.specs.Rules.{in_limits, reading, rises, ruled};
+ghost use Rattle.laws.specs.Rules.{reading, ruled};
 
 use crate::mill::point::Point;
 use crate::rounding::{rounded_ratio, whole};
@@ -20,14 +20,16 @@ pub(crate) struct Magnitude {
     ghost to: { m ≤ greatest_axis },
 }
 
-// The stress along the points.
+// The stress along the points; where there is none, no stress.
 pub(crate) fn along(points: &[Point], ratio: Magnitude) -> Bounds
     requires { ruled (map reading points.now) ≡ true }
     ensures { Rounded (in_steps (curve points.now (over (pos ratio.n) (pos ratio.m)))) result }
 {
-    let mut last = points[0];
-    for i in 1..points.len() {
-        let next = points[i];
+    let [first, rest @ ..] = points else {
+        return whole(0);
+    };
+    let mut last = *first;
+    for &next in rest {
         if reaches(next, ratio) {
             return between(last, next, ratio);
         }
@@ -38,7 +40,6 @@ pub(crate) fn along(points: &[Point], ratio: Magnitude) -> Bounds
 
 // Whether a point lies at the ratio or past it.
 fn reaches(point: Point, ratio: Magnitude) -> bool
-    requires { in_limits (reading point) ≡ true }
     ensures { result ≡ fraction_le (over (pos ratio.n) (pos ratio.m)) (at point) }
 {
     ratio.n * 1_000 <= point.ratio as u64 * ratio.m
@@ -46,8 +47,8 @@ fn reaches(point: Point, ratio: Magnitude) -> bool
 
 // The stress on the straight line from a to b.
 fn between(a: Point, b: Point, ratio: Magnitude) -> Bounds
-    requires rises { rises (reading a) (reading b) ≡ true }
-    requires limits { in_limits (reading b) ≡ true }
+    requires further { a.ratio < b.ratio }
+    requires no_less { a.stress ≤ b.stress }
     requires past { a.ratio * ratio.m ≤ ratio.n * 1000 }
     ensures { Rounded (in_steps (line a b (over (pos ratio.n) (pos ratio.m)))) result }
 {

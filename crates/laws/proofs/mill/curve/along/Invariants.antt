@@ -3,5 +3,5 @@ use Rattle.std.proofs.Common.{drop}
 use Rattle.laws.proofs.Walking.{Ahead}
 use Rattle.laws.proofs.mill.curve.along.Given as goal
 
-abbrev pub invariant-loop-i : goal.invariant-loop-i
-invariant-loop-i l = Ahead l.points l.ratio.n l.ratio.m l.last (drop l.i l.points)
+abbrev pub invariant-loop-next : goal.invariant-loop-next
+invariant-loop-next l = Ahead l.points l.ratio.n l.ratio.m l.last (drop l.next-index l.rest)
