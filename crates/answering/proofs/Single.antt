@@ -23,7 +23,7 @@ use Rattle.answering.specs.Answering.OfReadings.{keeping, breaking}
 use Rattle.answering.specs.Answering.OfStrength.{graded, ungraded}
 use Rattle.questions.specs.Questions.{AsksNothing}
 use Rattle.answering.specs.Replies.{LineAnswered, Lines, Replied, RepliedAll, reply_line, reply_text}
-use Rattle.questions.proofs.OneQuestion.{one_question}
+use Rattle.questions.proofs.Asked.{one_question}
 
 -- an answer as a reply
 abbrev told : Result Bounds Fault → Reply

@@ -9,15 +9,15 @@ use laws::fault::Fault;
 use laws::mill::Mill;
 use laws::trapezoid::Trapezoid;
 use laws::yielding::Yield;
-use questions::asked::Asked;
+use questions::law::asked::Asked;
 use questions::question::Question;
 
 // The floor and the ceiling of the stress that a question asks for, or the fault.
 pub(crate) fn answer(question: &Question) -> Result<Bounds, Fault>
-    ensures { Answered (law_of question.now.asked) (numbers_of question.now.asked) question.now.n question.now.m result }
+    ensures { Answered (law_of question.now.law) (numbers_of question.now.law) question.now.n question.now.m result }
 {
     let (n, m) = (question.n, question.m);
-    match &question.asked {
+    match &question.law {
         Asked::Block { fc } => ask(&Block::new(*fc)?, n, m),
         Asked::Trapezoid { fc } => ask(&Trapezoid::new(*fc)?, n, m),
         Asked::Yield { fy } => ask(&Yield::new(*fy)?, n, m),

@@ -1,2 +1,2 @@
-pub mod OneQuestion
+pub mod Asked
 pub mod Pairs

@@ -1,8 +1,8 @@
 -- The name and the numbers of a law that is asked.
 use Rattle.std.specs.Prelude.{◌≡◌, List, [], ◌∷◌, ℤ, pos, slice_index_or}
 use Rattle.laws.specs.declared.mill.reading.Reading.{Reading}
-use Rattle.questions.specs.declared.asked.Asked.{Asked}
-use Rattle.questions.specs.declared.asked.Asked.TheVariants as made
+use Rattle.questions.specs.declared.law.asked.Asked.{Asked}
+use Rattle.questions.specs.declared.law.asked.Asked.TheVariants as made
 use Rattle.questions.specs.declared.law.Law.{Law}
 use Rattle.questions.specs.declared.law.Law.TheVariants.{Block, Trapezoid, Yield, Mill}
 use Rattle.questions.specs.Questions.{Takes}

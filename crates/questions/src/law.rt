@@ -3,6 +3,9 @@ ghost use Rattle.std.specs.Prelude.{◌≡◌, MatchOption, ◌≢◌};
 ghost use Rattle.questions.specs.declared.law.Law.{Law};
 ghost use Rattle.questions.specs.Questions.{name_of};
 
+pub mod asked;
+
+/// The name of a law.
 #[derive(Clone, Copy)]
 pub enum Law {
     /// concrete, by its strength

@@ -1,6 +1,5 @@
 // What a line asks of a material law.
 #![tactic(auto)]
 
-pub mod asked;
 pub mod law;
 pub mod question;

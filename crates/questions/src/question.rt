@@ -4,7 +4,7 @@ ghost use Rattle.text.specs.Runs.{pieces};
 ghost use Rattle.questions.specs.Asked.{law_of, numbers_of};
 ghost use Rattle.questions.specs.Questions.{Asks, AsksNothing, At, Leading, NoNumberFirst, NumberFirst, Two};
 
-use crate::asked::{Asked, asked_of};
+use crate::law::asked::{Asked, asked_of};
 use crate::law::law_named;
 use std::alloc::{AllocError, Global};
 use text::figures::number;
@@ -13,7 +13,7 @@ use text::runs::first_piece;
 /// A law, and the two numbers at which it is asked.
 #[derive(Drop)]
 pub struct Question {
-    pub asked: Asked,
+    pub law: Asked,
     /// the first number after `at`
     pub n: i64,
     /// the second number after `at`
@@ -22,7 +22,7 @@ pub struct Question {
 
 /// The question that a line asks, if it asks one.
 pub fn question_asked(heap: Global, line: &[u8]) -> Result<Option<Question>, AllocError>
-    ensures { IfOk result (λ o. MatchOption o (AsksNothing (pieces line.now)) (λ q. Asks (pieces line.now) (law_of q.asked) (numbers_of q.asked) q.n q.m)) }
+    ensures { IfOk result (λ o. MatchOption o (AsksNothing (pieces line.now)) (λ q. Asks (pieces line.now) (law_of q.law) (numbers_of q.law) q.n q.m)) }
 {
     let Some((name, rest)) = first_piece(line) else {
         return Ok(None);
@@ -34,14 +34,14 @@ pub fn question_asked(heap: Global, line: &[u8]) -> Result<Option<Question>, All
     let Some((n, m)) = two_at(rest) else {
         return Ok(None);
     };
-    let Some(asked) = asked_of(heap, law, numbers.as_slice())? else {
+    let Some(law) = asked_of(heap, law, numbers.as_slice())? else {
         return Ok(None);
     };
-    Ok(Some(Question { asked, n, m }))
+    Ok(Some(Question { law, n, m }))
 }
 
 // The numbers with which a line begins, and the line after them.
-#[tactic(auto, using(crate::proofs::OneQuestion::leading_none, crate::proofs::OneQuestion::leading_more))]
+#[tactic(auto, using(crate::proofs::Asked::leading_none, crate::proofs::Asked::leading_more))]
 fn leading_numbers(heap: Global, line: &[u8]) -> Result<(Vec<i64>, &[u8]), AllocError>
     ensures { IfOk result (λ p. Leading (pieces line.now) p.0.items (pieces p.1.now) × NoNumberFirst (pieces p.1.now)) }
 {

@@ -1,6 +1,6 @@
 -- Where `at` and two numbers do not follow the law's numbers, or the law does not take them, nothing is asked.
 use Rattle.std.proofs.Common.{rules}
-use Rattle.questions.proofs.OneQuestion.{not_at, not_taken}
+use Rattle.questions.proofs.Asked.{not_at, not_taken}
 use Rattle.questions.proofs.question.question_asked.Goals as goal
 
 pub returns-in_default-two_at : goal.returns-in_default-two_at

@@ -1,6 +1,6 @@
 -- Where no number comes first, or none after it, there are no two.
 use Rattle.std.proofs.Common.{[]}
-use Rattle.questions.proofs.OneQuestion.{two_after}
+use Rattle.questions.proofs.Asked.{two_after}
 use Rattle.questions.proofs.question.two.Goals as goal
 
 pub returns-in_err-n : goal.returns-in_err-n

@@ -2,7 +2,7 @@
 use Rattle.std.proofs.Common.{◌≡◌, ◌∷◌, codes, ap, ◌∙◌, rules}
 use Rattle.std.proofs.lemmas.Slice.Eq.{text_from_reads}
 use Rattle.text.specs.Runs.{pieces}
-use Rattle.questions.proofs.OneQuestion.{at_two}
+use Rattle.questions.proofs.Asked.{at_two}
 use Rattle.questions.proofs.question.two_at.Goals as goal
 
 pub returns-in-at-default : goal.returns-in-at-default

@@ -22,12 +22,12 @@ pub enum Asked {
 
 // The law with its numbers, if it takes as many.
 pub(crate) fn asked_of(heap: Global, law: Law, numbers: &[i64]) -> Result<Option<Asked>, AllocError>
-    ensures { IfOk result (λ o. MatchOption o (Takes law numbers.now → ⊥) (λ a. IsAskedOf law numbers.now a)) }
+    ensures { IfOk result (λ o. MatchOption o (¬ Takes law numbers.now) (IsAskedOf law numbers.now)) }
 {
     match (law, numbers) {
-        (Law::Block, [fc]) => Ok(Some(Asked::Block { fc: *fc })),
-        (Law::Trapezoid, [fc]) => Ok(Some(Asked::Trapezoid { fc: *fc })),
-        (Law::Yield, [fy]) => Ok(Some(Asked::Yield { fy: *fy })),
+        (Law::Block, &[fc]) => Ok(Some(Asked::Block { fc })),
+        (Law::Trapezoid, &[fc]) => Ok(Some(Asked::Trapezoid { fc })),
+        (Law::Yield, &[fy]) => Ok(Some(Asked::Yield { fy })),
         (Law::Mill, _) => mill_of(heap, numbers),
         _ => Ok(None),
     }
@@ -36,7 +36,7 @@ pub(crate) fn asked_of(heap: Global, law: Law, numbers: &[i64]) -> Result<Option
 // The mill curve of numbers, if they are in pairs.
 #[tactic(auto, using(crate::proofs::Pairs::numbers_of_pairs))]
 fn mill_of(heap: Global, numbers: &[i64]) -> Result<Option<Asked>, AllocError>
-    ensures { IfOk result (λ o. MatchOption o (Takes Law.Mill numbers.now → ⊥) (λ a. IsAskedOf Law.Mill numbers.now a)) }
+    ensures { IfOk result (λ o. MatchOption o (¬ Takes Law.Mill numbers.now) (IsAskedOf Law.Mill numbers.now)) }
 {
     let (pairs, []) = numbers.as_chunks() else {
         return Ok(None);
@@ -51,9 +51,6 @@ fn readings_of(heap: Global, pairs: &[[i64; 2]]) -> Result<Vec<Reading>, AllocEr
 {
     pairs
         .iter()
-        .map(|[ratio, stress]| Reading {
-            ratio: *ratio,
-            stress: *stress,
-        })
+        .map(|&[ratio, stress]| Reading { ratio, stress })
         .collect(heap)
 }
