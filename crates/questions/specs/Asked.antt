@@ -1,5 +1,6 @@
 -- The name and the numbers of a law that is asked.
 use Rattle.std.specs.Prelude.{◌≡◌, List, [], ◌∷◌, ℤ, pos, slice_index_or}
+use Rattle.std.specs.List.{flat_map}
 use Rattle.laws.specs.declared.mill.reading.Reading.{Reading}
 use Rattle.questions.specs.declared.law.asked.Asked.{Asked}
 use Rattle.questions.specs.declared.law.asked.Asked.TheVariants as made
@@ -7,22 +8,23 @@ use Rattle.questions.specs.declared.law.Law.{Law}
 use Rattle.questions.specs.declared.law.Law.TheVariants.{Block, Trapezoid, Yield, Mill}
 use Rattle.questions.specs.Questions.{Takes}
 
+-- its name
 abbrev pub law_of : Asked → Law
 law_of (made.Block fc) = Block
 law_of (made.Trapezoid fc) = Trapezoid
 law_of (made.Yield fy) = Yield
 law_of (made.Mill readings) = Mill
 
--- the numbers of readings: the ratio and the stress of each
-unfoldable pub numbers_of_readings : List Reading → List ℤ
-numbers_of_readings [] = []
-numbers_of_readings (r ∷ rs) = r.ratio ∷ r.stress ∷ numbers_of_readings rs
+-- a ratio and a stress
+abbrev pub numbers_in : Reading → List ℤ
+numbers_in r = r.ratio ∷ r.stress ∷ []
 
+-- the numbers of which the law is made
 abbrev pub numbers_of : Asked → List ℤ
 numbers_of (made.Block fc) = fc ∷ []
 numbers_of (made.Trapezoid fc) = fc ∷ []
 numbers_of (made.Yield fy) = fy ∷ []
-numbers_of (made.Mill readings) = numbers_of_readings readings.items
+numbers_of (made.Mill readings) = flat_map numbers_in readings.items
 
 -- the law that takes the numbers, made of them
 pub record IsAskedOf (the_law : Law) (zs : List ℤ) (asked : Asked) : Type 0 where
