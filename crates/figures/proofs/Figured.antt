@@ -1,5 +1,5 @@
 -- What a law answers at a ratio is the floor and the ceiling of its stress, which are computed at literals.
-use Rattle.std.proofs.Common.{◌≡◌, Bool, T, ℤ, pos, ◌+ℤ◌, ◌-ℤ◌, ◌*ℤ◌, neg_ℤ, Ok, Err, Result, sym, ap, subst}
+use Rattle.std.proofs.Common.{◌≡◌, Bool, T, ℤ, pos, ◌+ℤ◌, ◌-ℤ◌, ◌*ℤ◌, neg_ℤ, Ok, Err, Result, ap, subst}
 use Rattle.std.specs.Int.Signed.{le_z, lt_z, le_z_yes, lt_z_yes}
 use Rattle.exact.specs.declared.bounds.Bounds.{Bounds}
 use Rattle.exact.specs.Fractions.{Fraction, Crossed≤, Crossed<, whole, over, fraction_le}
@@ -36,6 +36,6 @@ pub answered : (f : Fraction → Fraction) (n m : ℤ) (a : Bounds) (r : Result 
 answered f n m a (Ok b) h t u = ap (λ (x : Bounds). Ok x) (rounded_one h.1 (rounded u))
 answered f n m a (Err e) h t u = absurd (h.0 (in_range t))
 
--- the law that was made is that of `of`, and the ratio that was asked n / m
-pub figure : {K : Type 0} (stress : K → Fraction → Fraction) {made : K} (of : K) {x y : ℤ} (n m : ℤ) {a : Bounds} {r : Result Bounds Fault} → Gives (stress of) n m a → Answers (stress made) x y r → made ≡ of → x ≡ n → y ≡ m → r ≡ Ok a
-figure stress of n m {a} {r} g h e i j = g r (subst (λ k. Answers (stress k) n m r) e (rw (sym i, sym j) h))
+-- the law that was made is that of `of`, and it answered b
+pub figure : {K : Type 0} (stress : K → Fraction → Fraction) {made of : K} {n m : ℤ} {a b : Bounds} {r : Result Bounds Fault} → Gives (stress of) n m a → Answers (stress made) n m r → made ≡ of → r ≡ Ok b → b ≡ a
+figure stress {made} {of} {n} {m} {a} {b} {r} g h e f = let i = g r (subst (λ k. Answers (stress k) n m r) e h) in cc

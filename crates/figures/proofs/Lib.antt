@@ -1,2 +1,2 @@
 mod Figured
-mod Proved
+pub mod Proved
