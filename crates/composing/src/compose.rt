@@ -7,7 +7,7 @@ ghost use Rattle.composing.specs.declared.compose.Failure.TheVariants.{Memory};
 
 use crate::expected::Expected;
 use crate::line::word_asked;
-use crate::runs::{Separator, first_run};
+use text::runs::{Separator, first_run};
 use std::alloc::{AllocError, Global};
 use words::stream::put;
 

@@ -1,12 +1,12 @@
 // The word that one line asks for.
 ghost use Rattle.std.specs.Prelude.{◌≡◌, Decides, MatchResult, slice_index};
 ghost use Rattle.composing.specs.Asking.{Answered, Lacks, Skipped, after_index};
-ghost use Rattle.composing.specs.Runs.{pieces};
+ghost use Rattle.text.specs.Runs.{pieces};
 ghost use Rattle.composing.specs.Spelling.{Spells};
 
 use crate::expected::Expected;
-use crate::figures::all_digits;
-use crate::runs::first_piece;
+use text::figures::all_digits;
+use text::runs::first_piece;
 use crate::spelling::{entry_of_kind, kind_named};
 use words::entry::Entry;
 use words::word::write;

@@ -1,7 +1,7 @@
 -- A name without the numbers of its kind spells no entry.
 use Rattle.std.proofs.Common.{◌≡◌, ◌∷◌, rules}
 use Rattle.words.specs.Kinds.{name_of}
-use Rattle.composing.specs.Runs.{pieces}
+use Rattle.text.specs.Runs.{pieces}
 use Rattle.composing.proofs.Spelt.{not_spelt}
 use Rattle.composing.proofs.line.entry_spelt.Goals as goal
 
