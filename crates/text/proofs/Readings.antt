@@ -1,26 +1,20 @@
 -- What `parse` reads of a piece is the number that its figures write.
-use Rattle.std.proofs.Common.{◌≡◌, ℕ, zero, suc, ◌<◌, ◌&&◌, eqb, List, [], ◌∷◌, ℤ, Some, None, Ok, Err, IsUtf8, IsAscii, Option, Result, sym, refl, ap, ◌∙◌, subst, inl, inr, arith, w64, MatchOption, MatchResult}
+use Rattle.std.proofs.Common.{◌≡◌, ℕ, eqb, List, [], ◌∷◌, ℤ, Some, None, Ok, Err, IsUtf8, IsAscii, Option, Result, sym, ◌∙◌, subst, inl, inr, arith, w64, MatchOption, MatchResult}
 use Rattle.std.specs.Str.Parse.{IsNumeral, ParsesSigned, without_leading_sign}
 use Rattle.std.specs.Result.{result_ok}
-use Rattle.std.specs.Str.{all_ascii_digits}
-use Rattle.std.specs.Char.{is_ascii_digit}
-use Rattle.std.specs.List.{list_all}
 use Rattle.std.proofs.lemmas.Fmt.{IsAscii-from_digits}
 use Rattle.std.proofs.lemmas.Bool.{cases_Bool, eqb-true}
 use Rattle.std.proofs.lemmas.Str.{IsUtf8-from_ascii}
+use Rattle.std.proofs.lemmas.Str.Ascii.{IsAscii-cons}
 use Rattle.text.specs.Figures.{Figures}
-
-ascii_cons : (b : ℕ) (bs : List ℕ) → b < 128 → IsAscii bs → IsAscii (b ∷ bs)
-ascii_cons b bs l h zero = l
-ascii_cons b bs l h (suc i) = h i
 
 ascii_numeral : (bs : List ℕ) → IsNumeral 10 (without_leading_sign bs) → IsAscii bs
 ascii_numeral [] h = absurd (omega arith)
 ascii_numeral (b ∷ bs) h =
     elim (cases_Bool (eqb b 45)) [
-      | inl e ↦ ascii_cons b bs (let q = eqb-true b 45 e in omega arith) (IsAscii-from_digits bs (rw e at h).1)
+      | inl e ↦ IsAscii-cons b bs (let q = eqb-true b 45 e in omega arith) (IsAscii-from_digits bs (rw e at h).1)
       | inr e ↦ elim (cases_Bool (eqb b 43)) [
-        | inl f ↦ ascii_cons b bs (let q = eqb-true b 43 f in omega arith) (IsAscii-from_digits bs (rw f at (rw e at h)).1)
+        | inl f ↦ IsAscii-cons b bs (let q = eqb-true b 43 f in omega arith) (IsAscii-from_digits bs (rw f at (rw e at h)).1)
         | inr f ↦ IsAscii-from_digits (b ∷ bs) (rw f at (rw e at h)).1
       ]
     ]
@@ -47,8 +41,3 @@ number_read bs (Err x) o h e = rw e (λ z f. h f.0)
 pub one_number : (piece : List ℕ) (y z : ℤ) → Figures piece y → Figures piece z → y ≡ z
 unfolding Figures
 one_number piece y z h g = h.1 ∙ sym g.1
-
--- a test of each byte
-pub digits_all : (bs : List ℕ) → list_all is_ascii_digit bs ≡ all_ascii_digits bs
-digits_all [] = refl
-digits_all (b ∷ bs) = ap (λ t. is_ascii_digit b && t) (digits_all bs)
