@@ -1,6 +1,6 @@
 -- What the pieces of a line ask.
 use Rattle.std.specs.Prelude.{◌≡◌, ℕ, ◌%◌, List, [], ◌∷◌, ◌++◌, length, ℤ, codes}
-use Rattle.text.specs.Figures.{Figures}
+use Rattle.text.specs.Figures.{Figures, NumberFirst}
 use Rattle.questions.specs.declared.law.Law.{Law}
 use Rattle.questions.specs.declared.law.Law.TheVariants.{Block, Trapezoid, Yield, Mill}
 
@@ -23,14 +23,6 @@ Written [] [] = Unit {0}
 Written [] (z ∷ zs) = ⊥
 Written (p ∷ ps) [] = ⊥
 Written (p ∷ ps) (z ∷ zs) = Figures p z × Written ps zs
-
--- the pieces begin with the figures of z
-abbrev pub NumberFirst : List (List ℕ) → ℤ → List (List ℕ) → Type 0
-NumberFirst ps z rest = (piece : List ℕ) × (ps ≡ piece ∷ rest) × Figures piece z
-
--- or with those of no number
-abbrev pub NoNumberFirst : List (List ℕ) → Type 0
-NoNumberFirst ps = (z : ℤ) (rest : List (List ℕ)) → NumberFirst ps z rest → ⊥
 
 -- the pieces begin with the figures of the numbers
 pub record Leading (ps : List (List ℕ)) (zs : List ℤ) (rest : List (List ℕ)) : Type 0 where
