@@ -1,10 +1,10 @@
 -- A line asks one question at most: its numbers end where no figures follow, and `at` is none.
 use Rattle.std.proofs.Common.{◌≡◌, ℕ, List, [], ◌∷◌, ◌++◌, ℤ, Some, None, codes, Option, sym, refl, ap, ◌∙◌, arith, MatchOption}
 use Rattle.std.proofs.lemmas.List.{append_assoc}
-use Rattle.text.specs.Figures.{Figures}
+use Rattle.text.specs.Figures.{Figures, NoNumberFirst, NumberFirst}
 use Rattle.text.proofs.Readings.{one_number}
 use Rattle.questions.specs.declared.law.Law.{Law}
-use Rattle.questions.specs.Questions.{Asks, AsksNothing, At, Leading, NoNumberFirst, NumberFirst, Takes, Two, Written, name_of}
+use Rattle.questions.specs.Questions.{Asks, AsksNothing, At, Leading, Takes, Two, Written, name_of}
 
 pub leading_none : (ps : List (List ℕ)) (zs : List ℤ) → zs ≡ [] → Leading ps zs ps
 leading_none ps zs e = record { figures = []; cut = refl; written = rw e tt }

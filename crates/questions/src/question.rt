@@ -1,13 +1,14 @@
 // The question that a line asks: a law, its numbers, and the two numbers at which it is asked.
 ghost use Rattle.std.specs.Prelude.{ℤ, IfOk, MatchOption};
+ghost use Rattle.text.specs.Figures.{NoNumberFirst};
 ghost use Rattle.text.specs.Runs.{pieces};
 ghost use Rattle.questions.specs.Asked.{law_of, numbers_of};
-ghost use Rattle.questions.specs.Questions.{Asks, AsksNothing, At, Leading, NoNumberFirst, NumberFirst, Two};
+ghost use Rattle.questions.specs.Questions.{Asks, AsksNothing, At, Leading, Two};
 
 use crate::law::asked::{Asked, asked_of};
 use crate::law::law_named;
 use std::alloc::{AllocError, Global};
-use text::figures::number;
+use text::figures::first_number;
 use text::runs::first_piece;
 
 /// A law, and the two numbers at which it is asked.
@@ -52,14 +53,6 @@ fn leading_numbers(heap: Global, line: &[u8]) -> Result<(Vec<i64>, &[u8]), Alloc
         rest = more;
     }
     Ok((numbers, rest))
-}
-
-// The number with which a line begins, and the line after it.
-fn first_number(line: &[u8]) -> Option<(i64, &[u8])>
-    ensures { MatchOption result (NoNumberFirst (pieces line.now)) (λ p. NumberFirst (pieces line.now) p.0 (pieces p.1.now)) }
-{
-    let (piece, rest) = first_piece(line)?;
-    Some((number(piece)?, rest))
 }
 
 // The two numbers of a line that is `at`, these numbers, and nothing else.
