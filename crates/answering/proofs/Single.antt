@@ -1,6 +1,7 @@
 -- A text has one text of replies.
-use Rattle.std.proofs.Common.{◌≡◌, ℕ, List, [], ◌∷◌, ◌++◌, ℤ, IfOk, Some, None, Ok, Err, codes, decimal, Option, Result, sym, refl, ap, ◌∙◌, subst, arith}
+use Rattle.std.proofs.Common.{◌≡◌, ℕ, List, [], ◌∷◌, ◌++◌, ℤ, Some, None, Ok, Err, codes, decimal, Option, Result, sym, refl, ap, ◌∙◌, arith}
 use Rattle.std.proofs.lemmas.Bool.{both_ways}
+use Rattle.exact.specs.declared.bounds.Bounds.{Bounds}
 use Rattle.exact.specs.Fractions.{Fraction}
 use Rattle.exact.proofs.Rounding.{rounded_one}
 use Rattle.laws.specs.declared.fault.Fault.{Fault}
@@ -25,69 +26,69 @@ use Rattle.answering.specs.Replies.{LineAnswered, Lines, Replied, RepliedAll, re
 use Rattle.questions.proofs.Asked.{one_question}
 
 -- an answer as a reply
-abbrev told : Result (ℤ × ℤ) Fault → Reply
-told (Ok a) = Stress a.0 a.1
+abbrev told : Result Bounds Fault → Reply
+told (Ok bounds) = Stress bounds
 told (Err e) = Refused e
 
-refused_one : (k l : ℕ) (r s : Result (ℤ × ℤ) Fault) → RefusedBy k r → RefusedBy l s → k ≡ l → reply_text (told r) ≡ reply_text (told s)
-refused_one k l r s h g e =
-    let same : refusal h.0 ≡ refusal g.0 = h.2 ∙ (e ∙ sym g.2) in
+refused_one : (k : ℕ) (r s : Result Bounds Fault) → RefusedBy k r → RefusedBy k s → reply_text (told r) ≡ reply_text (told s)
+refused_one k r s h g =
+    let same : refusal h.0 ≡ refusal g.0 = cc in
     rw (h.1, g.1) (ap (λ k. codes "refused " ++ decimal k) same)
 
-answers_one : (f : Fraction → Fraction) (n m : ℤ) (r s : Result (ℤ × ℤ) Fault) → Answers f n m r → Answers f n m s → reply_text (told r) ≡ reply_text (told s)
-answers_one f n m (Ok a) (Ok b) h g = ap (λ (c : ℤ × ℤ). reply_text (told (Ok c))) (rounded_one h.1 g.1)
+answers_one : (f : Fraction → Fraction) (n m : ℤ) (r s : Result Bounds Fault) → Answers f n m r → Answers f n m s → reply_text (told r) ≡ reply_text (told s)
+answers_one f n m (Ok a) (Ok b) h g = ap (λ c. reply_text (Stress c)) (rounded_one h.1 g.1)
 answers_one f n m (Ok a) (Err e) h g = absurd (g.0 h.0)
 answers_one f n m (Err e) (Ok b) h g = absurd (h.0 g.0)
-answers_one f n m (Err d) (Err e) h g = refused_one 3 3 (Err d) (Err e) (d, refl, h.1) (e, refl, g.1) refl
+answers_one f n m (Err d) (Err e) h g = refused_one 3 (Err d) (Err e) (d, refl, h.1) (e, refl, g.1)
 
-strength_one : (Grade : ℕ → Type 0) (stress : ℕ → Fraction → Fraction) (given n m : ℤ) (r s : Result (ℤ × ℤ) Fault) → OfStrength Grade stress given n m r → OfStrength Grade stress given n m s → reply_text (told r) ≡ reply_text (told s)
+strength_one : (Grade : ℕ → Type 0) (stress : ℕ → Fraction → Fraction) (given n m : ℤ) (r s : Result Bounds Fault) → OfStrength Grade stress given n m r → OfStrength Grade stress given n m s → reply_text (told r) ≡ reply_text (told s)
 strength_one Grade stress given n m r s (graded psi e g a) (graded phi f h b) =
     let same : phi ≡ psi = cc in
-    answers_one (stress psi) n m r s a (subst (λ k. Answers (stress k) n m s) same b)
+    answers_one (stress psi) n m r s a (rw same at b)
 strength_one Grade stress given n m r s (graded psi e g a) (ungraded none b) = absurd (none psi e g)
 strength_one Grade stress given n m r s (ungraded none a) (graded phi f h b) = absurd (none phi f h)
-strength_one Grade stress given n m r s (ungraded none a) (ungraded nor b) = refused_one 1 1 r s a b refl
+strength_one Grade stress given n m r s (ungraded none a) (ungraded nor b) = refused_one 1 r s a b
 
-readings_one : (rs : List Reading) (n m : ℤ) (r s : Result (ℤ × ℤ) Fault) → OfReadings rs n m r → OfReadings rs n m s → reply_text (told r) ≡ reply_text (told s)
+readings_one : (rs : List Reading) (n m : ℤ) (r s : Result Bounds Fault) → OfReadings rs n m r → OfReadings rs n m s → reply_text (told r) ≡ reply_text (told s)
 readings_one rs n m r s (keeping ps e k a) (keeping qs f l b) =
-    answers_one (mill_stress ps) n m r s a (subst (λ us. Answers (mill_stress us) n m s) (one_curve qs ps (sym f ∙ e)) b)
+    let same : qs ≡ ps = one_curve qs ps (sym f ∙ e) in
+    answers_one (mill_stress ps) n m r s a (rw same at b)
 readings_one rs n m r s (keeping ps e k a) (breaking l b) = absurd (both_ways (ruled rs) l k)
 readings_one rs n m r s (breaking k a) (keeping qs f l b) = absurd (both_ways (ruled rs) k l)
-readings_one rs n m r s (breaking k a) (breaking l b) = refused_one 2 2 r s a b refl
+readings_one rs n m r s (breaking k a) (breaking l b) = refused_one 2 r s a b
 
-numbered_one : (Grade : ℕ → Type 0) (stress : ℕ → Fraction → Fraction) (zs : List ℤ) (n m : ℤ) (r s : Result (ℤ × ℤ) Fault) → (z : ℤ) × (zs ≡ z ∷ []) × OfStrength Grade stress z n m r → (z : ℤ) × (zs ≡ z ∷ []) × OfStrength Grade stress z n m s → reply_text (told r) ≡ reply_text (told s)
+numbered_one : (Grade : ℕ → Type 0) (stress : ℕ → Fraction → Fraction) (zs : List ℤ) (n m : ℤ) (r s : Result Bounds Fault) → (z : ℤ) × (zs ≡ z ∷ []) × OfStrength Grade stress z n m r → (z : ℤ) × (zs ≡ z ∷ []) × OfStrength Grade stress z n m s → reply_text (told r) ≡ reply_text (told s)
 numbered_one Grade stress zs n m r s h g =
     let p = h.1 in
     let q = g.1 in
     let same : g.0 ≡ h.0 = cc in
-    strength_one Grade stress h.0 n m r s h.2 (subst (λ z. OfStrength Grade stress z n m s) same g.2)
+    strength_one Grade stress h.0 n m r s h.2 (rw same at g.2)
 
-answered_one : (law : Law) (zs : List ℤ) (n m : ℤ) (r s : Result (ℤ × ℤ) Fault) → Answered law zs n m r → Answered law zs n m s → reply_text (told r) ≡ reply_text (told s)
+answered_one : (law : Law) (zs : List ℤ) (n m : ℤ) (r s : Result Bounds Fault) → Answered law zs n m r → Answered law zs n m s → reply_text (told r) ≡ reply_text (told s)
 answered_one Block zs n m r s h g = numbered_one ConcreteGrade block_stress zs n m r s h g
 answered_one Trapezoid zs n m r s h g = numbered_one ConcreteGrade trapezoid_stress zs n m r s h g
 answered_one Yield zs n m r s h g = numbered_one YieldGrade yield_stress zs n m r s h g
 answered_one Mill zs n m r s h g = readings_one (paired zs) n m r s h g
 
 -- one answer of one question
-line_one : (line : List ℕ) (r s : Result (ℤ × ℤ) Fault) → LineAnswered line r → LineAnswered line s → reply_text (told r) ≡ reply_text (told s)
+line_one : (line : List ℕ) (r s : Result Bounds Fault) → LineAnswered line r → LineAnswered line s → reply_text (told r) ≡ reply_text (told s)
 line_one line r s a b =
     let q = one_question (pieces line) b.law a.law b.numbers a.numbers b.n b.m a.n a.m b.asks a.asks in
-    answered_one a.law a.numbers a.n a.m r s a.answered
-    (subst (λ k. Answered k a.numbers a.n a.m s) q.0 (subst (λ zs. Answered b.law zs a.n a.m s) q.1 (subst (λ z. Answered b.law b.numbers z a.m s) q.2 (subst (λ z. Answered b.law b.numbers b.n z s) q.3 b.answered))))
+    answered_one a.law a.numbers a.n a.m r s a.answered (rw (q.0, q.1, q.2, q.3) at b.answered)
 
 -- what is printed for a line, by the three kinds of lines
 data Said (line bytes : List ℕ) : Type 0 where
   blank : pieces line ≡ [] → bytes ≡ [] → Said line bytes
   nothing : (pieces line ≡ [] → ⊥) → AsksNothing (pieces line) → bytes ≡ reply_line (Some Unreadable) → Said line bytes
-  answer : (r : Result (ℤ × ℤ) Fault) → LineAnswered line r → bytes ≡ reply_line (Some (told r)) → Said line bytes
+  answer : (r : Result Bounds Fault) → LineAnswered line r → bytes ≡ reply_line (Some (told r)) → Said line bytes
 
 said : (line bytes : List ℕ) (o : Option Reply) → Replied line o → bytes ≡ reply_line o → Said line bytes
 said line bytes None h e = blank h e
-said line bytes (Some (Stress a b)) h e = answer (Ok (a, b)) h e
+said line bytes (Some (Stress bounds)) h e = answer (Ok bounds) h e
 said line bytes (Some (Refused d)) h e = answer (Err d) h e
 said line bytes (Some Unreadable) h e = nothing h.0 h.1 e
 
-not_blank : (line : List ℕ) (r : Result (ℤ × ℤ) Fault) → LineAnswered line r → pieces line ≡ [] → ⊥
+not_blank : (line : List ℕ) (r : Result Bounds Fault) → LineAnswered line r → pieces line ≡ [] → ⊥
 not_blank line r a e = let p = a.asks.cut in let z : ◌≡◌ {A = ℕ} 0 1 = cc in omega arith
 
 said_one : (line xs ys : List ℕ) → Said line xs → Said line ys → xs ≡ ys
@@ -111,6 +112,5 @@ lines_one (l ∷ ls) xs ys h g =
     let rest = lines_one ls h.1 g.1 h.4 g.4 in
     h.2 ∙ (ap (λ t. t ++ h.1) first ∙ (ap (λ t. g.0 ++ t) rest ∙ sym g.2))
 
-pub replies_one : {S E : Type 0} (bytes_of : S → List ℕ) (text : List ℕ) (r : Result S E) → IfOk r (λ s. RepliedAll text (bytes_of s)) → IfOk r (λ s. (bytes : List ℕ) → RepliedAll text bytes → bytes ≡ bytes_of s)
-replies_one bytes_of text (Ok s) h = λ bytes g. lines_one (lines_of text) bytes (bytes_of s) g h
-replies_one bytes_of text (Err e) h = tt
+pub replies_one : (text replies : List ℕ) → RepliedAll text replies → (bytes : List ℕ) → RepliedAll text bytes → bytes ≡ replies
+replies_one text replies h bytes g = lines_one (lines_of text) bytes replies g h

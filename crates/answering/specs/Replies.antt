@@ -1,8 +1,9 @@
 -- What is replied to the lines of a text.
-use Rattle.std.specs.Prelude.{◌≡◌, ℕ, List, [], ◌∷◌, ◌++◌, ℤ, Some, None, Ok, Err, codes, decimal, Option, Result, ◌≢◌}
+use Rattle.std.specs.Prelude.{◌≡◌, ℕ, List, [], ◌∷◌, ◌++◌, ℤ, Some, None, Ok, Err, codes, Option, Result, ◌≢◌}
 use Rattle.std.specs.Fmt.{signed_decimal}
+use Rattle.exact.specs.declared.bounds.Bounds.{Bounds}
 use Rattle.laws.specs.declared.fault.Fault.{Fault}
-use Rattle.laws.specs.Faults.{refusal}
+use Rattle.laws.specs.Faults.{refused_text}
 use Rattle.text.specs.Runs.{lines_of, pieces}
 use Rattle.questions.specs.declared.law.Law.{Law}
 use Rattle.answering.specs.declared.reply.Reply.{Reply}
@@ -11,7 +12,7 @@ use Rattle.questions.specs.Questions.{Asks, AsksNothing}
 use Rattle.answering.specs.Answering.{Answered}
 
 -- the line asks a question that is answered so
-pub record LineAnswered (line : List ℕ) (r : Result (ℤ × ℤ) Fault) : Type 0 where
+pub record LineAnswered (line : List ℕ) (r : Result Bounds Fault) : Type 0 where
   pub law : Law
   pub numbers : List ℤ
   pub n : ℤ
@@ -22,14 +23,14 @@ pub record LineAnswered (line : List ℕ) (r : Result (ℤ × ℤ) Fault) : Type
 -- the reply to a line: none where it has no pieces; else the answer to what it asks, or that it asks nothing
 abbrev pub Replied : List ℕ → Option Reply → Type 0
 Replied line None = pieces line ≡ []
-Replied line (Some (Stress floor ceiling)) = LineAnswered line (Ok (floor, ceiling))
+Replied line (Some (Stress bounds)) = LineAnswered line (Ok bounds)
 Replied line (Some (Refused e)) = LineAnswered line (Err e)
 Replied line (Some Unreadable) = (pieces line ≢ []) × AsksNothing (pieces line)
 
 -- a reply in bytes: the floor and the ceiling, or the number of the refusal
 abbrev pub reply_text : Reply → List ℕ
-reply_text (Stress floor ceiling) = signed_decimal floor ++ (codes " " ++ signed_decimal ceiling)
-reply_text (Refused e) = codes "refused " ++ decimal (refusal e)
+reply_text (Stress bounds) = signed_decimal bounds.floor ++ (codes " " ++ signed_decimal bounds.ceiling)
+reply_text (Refused e) = refused_text e
 reply_text Unreadable = codes "unreadable"
 
 -- a reply has a line to itself

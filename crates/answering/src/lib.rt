@@ -2,6 +2,5 @@
 #![tactic(auto)]
 
 mod answer;
-mod pairing;
 pub mod reply;
 pub mod replying;

@@ -3,21 +3,25 @@ ghost use Rattle.std.specs.Prelude.{IfOk, Some};
 ghost use Rattle.answering.specs.Replies.{Replied, reply_text};
 
 use crate::answer::answer;
+use exact::bounds::Bounds;
 use laws::fault::Fault;
 use questions::question::question_asked;
 use std::alloc::{AllocError, Global};
 use std::fmt;
 use text::runs::first_piece;
 
+/// What is replied to a line.
 #[derive(Clone, Copy)]
 pub enum Reply {
-    Stress { floor: i64, ceiling: i64 },
+    /// the floor and the ceiling of the stress that the line asks for
+    Stress(Bounds),
+    /// why there is no such stress
     Refused(Fault),
-    // the line asks nothing
+    /// the line asks nothing
     Unreadable,
 }
 
-// The reply to a line, or none where the line has no pieces.
+/// The reply to a line, or none where the line has no pieces.
 pub fn reply_to(heap: Global, line: &[u8]) -> Result<Option<Reply>, AllocError>
     ensures { IfOk result (λ o. Replied line.now o) }
 {
@@ -27,8 +31,8 @@ pub fn reply_to(heap: Global, line: &[u8]) -> Result<Option<Reply>, AllocError>
     let Some(question) = question_asked(heap, line)? else {
         return Ok(Some(Reply::Unreadable));
     };
-    match answer(heap, &question)? {
-        Ok((floor, ceiling)) => Ok(Some(Reply::Stress { floor, ceiling })),
+    match answer(&question) {
+        Ok(bounds) => Ok(Some(Reply::Stress(bounds))),
         Err(fault) => Ok(Some(Reply::Refused(fault))),
     }
 }
@@ -38,11 +42,8 @@ impl fmt::Display for Reply {
 
     fn fmt<W: fmt::Write>(&self, f: &mut fmt::Formatter<W>) -> fmt::Result {
         match *self {
-            Reply::Stress { floor, ceiling } => write!(f, "{floor} {ceiling}"),
-            Reply::Refused(fault) => {
-                let number = fault.number();
-                write!(f, "refused {number}")
-            }
+            Reply::Stress(Bounds { floor, ceiling }) => write!(f, "{floor} {ceiling}"),
+            Reply::Refused(fault) => write!(f, "{fault}"),
             Reply::Unreadable => write!(f, "unreadable"),
         }
     }

@@ -6,17 +6,10 @@ use crate::reply::reply_to;
 use std::alloc::{AllocError, Global};
 use text::runs::{Separator, first_run};
 
-// The replies to the lines of a text, each on a line of its own. No other bytes reply to the text.
+/// The replies to the lines of a text, each on a line of its own. No other bytes reply to the text.
 pub fn reply(heap: Global, text: &[u8]) -> Result<String, AllocError>
     ensures replied { IfOk result (λ s. RepliedAll text.now (string_bytes s)) }
     ensures only { IfOk result (λ s. (bytes : List ℕ) → RepliedAll text.now bytes → bytes ≡ string_bytes s) }
-{
-    reply_lines(heap, text)
-}
-
-// The replies alone.
-fn reply_lines(heap: Global, text: &[u8]) -> Result<String, AllocError>
-    ensures { IfOk result (λ s. RepliedAll text.now (string_bytes s)) }
 {
     let mut replies = String::new(heap);
     let mut rest = text;

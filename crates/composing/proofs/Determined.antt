@@ -12,14 +12,11 @@ use Rattle.composing.specs.declared.expected.Expected.{Expected}
 use Rattle.composing.specs.declared.expected.Expected.TheVariants.{Name, Numbers, Fit}
 use Rattle.composing.specs.Asking.{Answered, Lacks}
 use Rattle.composing.specs.Composing.{Asked}
-use Rattle.composing.specs.Figures.{Figures}
+use Rattle.text.specs.Figures.{Figures}
+use Rattle.text.proofs.Readings.{one_number}
 use Rattle.composing.specs.Spelling as spelling
 use Rattle.composing.specs.Spelling.{Spells}
 use Rattle.composing.proofs.Spelt.{one_kind}
-
-one_number : (piece : List ℕ) (y z : ℤ) → Figures piece y → Figures piece z → y ≡ z
-unfolding Figures
-one_number piece y z h g = h.2 ∙ sym g.2
 
 one_numbers : (ns ms : List Labelled) (ps : List (List ℕ)) → spelling.Numbers ns ps → spelling.Numbers ms ps → ns ≡ ms
 one_numbers [] [] ps h g = refl

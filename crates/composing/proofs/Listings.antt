@@ -21,12 +21,12 @@ use Rattle.words.specs.Lines.{Labelled, labelled, line_of, numbers_of, shown_num
 use Rattle.words.specs.Words.{Stands, bits, lowest}
 use Rattle.listing.specs.Listing.{Lines, entry_line}
 use Rattle.listing.specs.Listing.Line.{stands, unreadable}
-use Rattle.composing.specs.declared.runs.Separator.{Separator}
-use Rattle.composing.specs.declared.runs.Separator.TheVariants.{LineFeed, Blank}
+use Rattle.text.specs.declared.runs.Separator.{Separator}
+use Rattle.text.specs.declared.runs.Separator.TheVariants.{LineFeed, Blank}
 use Rattle.composing.specs.Asking.{Answered}
 use Rattle.composing.specs.Composing.{Asked}
-use Rattle.composing.specs.Figures.{Figures}
-use Rattle.composing.specs.Runs.{separates, onto, runs, filled, pieces, lines_of}
+use Rattle.text.specs.Figures.{Figures}
+use Rattle.text.specs.Runs.{separates, onto, runs, filled, pieces, lines_of}
 use Rattle.composing.specs.Spelling.{Numbers, Spells}
 
 -- no byte of the text is a separator
@@ -111,10 +111,10 @@ figures_signed (pos n) h =
     let f = first_of_decimal n l in
     let minus : eqb (get_or (decimal n) 0 0) 45 ≡ false = ne_eqb _ _ (λ e. omega arith) in
     let plus : eqb (get_or (decimal n) 0 0) 43 ≡ false = ne_eqb _ _ (λ e. omega arith) in
-    rw minus (rw plus (d.0, rw d.1 (record { sfits = h }), rw d.1 refl))
+    rw minus (rw plus ((d.0, rw d.1 (record { sfits = h })), rw d.1 refl))
 figures_signed (negsuc n) h =
     let d = decimal_is_IsNumeral (suc n) (omega arith) in
-    (d.0, rw d.1 (record { sfits = h }), rw d.1 refl)
+    ((d.0, rw d.1 (record { sfits = h })), rw d.1 refl)
 
 -- labels and figures, as pieces
 abbrev number_pieces : List Labelled → List (List ℕ)

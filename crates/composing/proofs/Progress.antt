@@ -3,10 +3,10 @@ use Rattle.std.proofs.Common.{◌≡◌, ℕ, suc, ◌+◌, ◌<◌, ◌≤◌, 
 use Rattle.std.proofs.lemmas.List.{append_assoc, append-nil, length_push}
 use Rattle.words.specs.Streams.{spread}
 use Rattle.words.proofs.Streams.{spread_append}
-use Rattle.composing.specs.declared.runs.Separator.TheVariants.{LineFeed}
+use Rattle.text.specs.declared.runs.Separator.TheVariants.{LineFeed}
 use Rattle.composing.specs.Asking.{Answered}
 use Rattle.composing.specs.Composing.{Asked, Composed, Reached}
-use Rattle.composing.specs.Runs.{FirstRun, lines_of, runs}
+use Rattle.text.specs.Runs.{FirstRun, lines_of, runs}
 
 -- the lines before the rest of the text ask for words whose bytes are there
 pub record SoFar (text rest : List ℕ) (n : ℕ) (bytes : List ℕ) : Type 0 where

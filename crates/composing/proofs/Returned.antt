@@ -8,7 +8,7 @@ use Rattle.listing.specs.Listing.{Lines, Listed, unfinished}
 use Rattle.composing.specs.declared.compose.Failure.{Failure}
 use Rattle.composing.specs.declared.compose.Failure.TheVariants.{Memory, Line}
 use Rattle.composing.specs.Composing.{Asked, Composed, Refused}
-use Rattle.composing.specs.Runs.{lines_of}
+use Rattle.text.specs.Runs.{lines_of}
 use Rattle.composing.proofs.Determined.{one_asked, nothing_lacks}
 use Rattle.composing.proofs.Listings.{asked_listing, long_listing}
 

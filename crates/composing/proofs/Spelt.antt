@@ -1,10 +1,14 @@
 -- Pieces spell at most one entry: by its name they tell its kind, and their numbers come one after another.
-use Rattle.std.proofs.Common.{◌≡◌, ℕ, List, ◌∷◌, ℤ, subst, arith}
+use Rattle.std.proofs.Common.{◌≡◌, ℕ, List, ◌∷◌, ℤ, Some, None, Option, Result, sym, ap, ◌∙◌, subst, arith, MatchOption, MatchResult}
+use Rattle.std.specs.Option.{ok_or}
 use Rattle.words.specs.declared.entry.Entry.{Entry}
 use Rattle.words.specs.declared.entry.Entry.TheVariants.{Open, Lay, Place, Lift, Axial, Moment, Solve}
 use Rattle.words.specs.declared.kind.Kind.{Kind}
 use Rattle.words.specs.Kinds.{kind_of, name_of}
 use Rattle.words.specs.Lines.{Labelled, labelled, numbers_of}
+use Rattle.composing.specs.declared.expected.Expected.{Expected}
+use Rattle.composing.specs.declared.expected.Expected.TheVariants as expected
+use Rattle.composing.specs.Asking.{Lacks}
 use Rattle.composing.specs.Spelling.{NoNumbers, NumberFirst, Numbers, Spells}
 
 -- what follows the first number is what follows it however it is read
@@ -34,3 +38,8 @@ not_spelt k ps rest p h e s =
     let names : name_of k ≡ name_of (kind_of e) = cc in
     let rests : rest ≡ s.0 = cc in
     no_entry s.0 e (subst (λ j. NoNumbers j s.0) (one_kind k (kind_of e) names) (subst (NoNumbers k) rests h)) s.2
+
+-- after a name, an entry of its kind is spelt where its numbers follow, and else numbers are lacking
+pub spelt_by : (k : Kind) (ps rest : List (List ℕ)) (o : Option Entry) (r : Result Entry Expected) → ps ≡ name_of k ∷ rest → MatchOption o (NoNumbers k rest) (λ e. (kind_of e ≡ k) × Numbers (numbers_of e) rest) → r ≡ ok_or o (expected.Numbers k) → MatchResult r (λ e. Spells ps e) (λ x. Lacks ps x)
+spelt_by k ps rest None r p h e = rw e ((rest, p), not_spelt k ps rest p h)
+spelt_by k ps rest (Some f) r p h e = rw e (rest, p ∙ ap (λ j. name_of j ∷ rest) (sym h.0), h.1)

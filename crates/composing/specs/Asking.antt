@@ -7,7 +7,7 @@ use Rattle.words.specs.Kinds.{kind_of, name_of}
 use Rattle.words.specs.Words.{Stands}
 use Rattle.composing.specs.declared.expected.Expected.{Expected}
 use Rattle.composing.specs.declared.expected.Expected.TheVariants.{Name, Numbers, Fit}
-use Rattle.composing.specs.Runs.{pieces}
+use Rattle.text.specs.Runs.{pieces}
 use Rattle.composing.specs.Spelling.{Spells}
 
 -- a line is skipped where it has no pieces, or its first begins with `#`

@@ -4,7 +4,7 @@ use Rattle.words.specs.Streams.{spread}
 use Rattle.composing.specs.declared.compose.Failure.{Failure}
 use Rattle.composing.specs.declared.compose.Failure.TheVariants.{Memory, Line}
 use Rattle.composing.specs.Asking.{Answered}
-use Rattle.composing.specs.Runs.{lines_of}
+use Rattle.text.specs.Runs.{lines_of}
 
 -- the words that lines ask for, in order: none of a line that is skipped, one of any other
 unfoldable pub Asked : List (List ℕ) → List ℕ → Type 0

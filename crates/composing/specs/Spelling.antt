@@ -6,7 +6,7 @@ use Rattle.words.specs.declared.kind.Kind.{Kind}
 use Rattle.words.specs.declared.kind.Kind.TheVariants.{Open, Lay, Place, Lift, Axial, Moment, Solve}
 use Rattle.words.specs.Kinds.{kind_of, name_of}
 use Rattle.words.specs.Lines.{Labelled, numbers_of}
-use Rattle.composing.specs.Figures.{Figures}
+use Rattle.text.specs.Figures.{Figures}
 
 -- the pieces begin with a label and the figures of z
 abbrev pub NumberFirst : List ℕ → List (List ℕ) → ℤ → List (List ℕ) → Type 0

@@ -7,8 +7,8 @@ ghost use Rattle.composing.specs.declared.compose.Failure.TheVariants.{Memory};
 
 use crate::expected::Expected;
 use crate::line::word_asked;
-use crate::runs::{Separator, first_run};
 use std::alloc::{AllocError, Global};
+use text::runs::{Separator, first_run};
 use words::stream::put;
 
 // Why no stream was made of a text: memory was wanting for a word, or a line asks for none and is not skipped.

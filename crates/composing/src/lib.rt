@@ -3,8 +3,6 @@
 
 pub mod compose;
 pub mod expected;
-mod figures;
 mod line;
 pub mod message;
-mod runs;
 mod spelling;

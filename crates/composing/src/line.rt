@@ -1,13 +1,13 @@
 // The word that one line asks for.
-ghost use Rattle.std.specs.Prelude.{◌≡◌, Decides, MatchResult, slice_index};
+ghost use Rattle.std.specs.Prelude.{◌≡◌, ◌↔◌, IsTrue, MatchResult};
+ghost use Rattle.text.specs.Runs.{pieces};
 ghost use Rattle.composing.specs.Asking.{Answered, Lacks, Skipped, after_index};
-ghost use Rattle.composing.specs.Runs.{pieces};
 ghost use Rattle.composing.specs.Spelling.{Spells};
 
 use crate::expected::Expected;
-use crate::figures::all_digits;
-use crate::runs::first_piece;
 use crate::spelling::{entry_of_kind, kind_named};
+use text::figures::all_digits;
+use text::runs::first_piece;
 use words::entry::Entry;
 use words::word::write;
 
@@ -27,22 +27,9 @@ pub(crate) fn word_asked(line: &[u8]) -> Result<Option<u32>, Expected>
 
 // Whether a line is blank or a comment.
 fn is_skipped(line: &[u8]) -> bool
-    ensures { Decides result (Skipped (pieces line.now)) }
+    ensures { IsTrue result ↔ Skipped (pieces line.now) }
 {
-    match first_piece(line) {
-        Some((piece, _)) => is_comment(piece),
-        None => true,
-    }
-}
-
-// Whether a piece begins a comment.
-fn is_comment(piece: &[u8]) -> bool
-    ensures { Decides result (slice_index piece.now 0 ≡ 35) }
-{
-    match piece {
-        [first, ..] => *first == b'#',
-        [] => false,
-    }
+    first_piece(line).is_none_or(|(piece, _)| piece.first() == Some(&b'#'))
 }
 
 // The line after the index with which it begins, if it does.
@@ -59,14 +46,7 @@ fn after_index(line: &[u8]) -> &[u8]
 fn entry_spelt(line: &[u8]) -> Result<Entry, Expected>
     ensures { MatchResult result (λ e. Spells (pieces line.now) e) (λ x. Lacks (pieces line.now) x) }
 {
-    let Some((name, rest)) = first_piece(line) else {
-        return Err(Expected::Name);
-    };
-    let Some(kind) = kind_named(name) else {
-        return Err(Expected::Name);
-    };
-    match entry_of_kind(kind, rest) {
-        Some(entry) => Ok(entry),
-        None => Err(Expected::Numbers(kind)),
-    }
+    let (name, rest) = first_piece(line).ok_or(Expected::Name)?;
+    let kind = kind_named(name).ok_or(Expected::Name)?;
+    entry_of_kind(kind, rest).ok_or(Expected::Numbers(kind))
 }

@@ -3,11 +3,11 @@ ghost use Rattle.std.specs.Prelude.{◌≡◌, ℕ, List, [], ◌∷◌, ℤ, De
 ghost use Rattle.words.specs.Kinds.{kind_of, name_of};
 ghost use Rattle.words.specs.Lines.{labelled, numbers_of};
 ghost use Rattle.words.specs.declared.kind.Kind.{Kind};
-ghost use Rattle.composing.specs.Runs.{pieces};
+ghost use Rattle.text.specs.Runs.{pieces};
 ghost use Rattle.composing.specs.Spelling.{NoNumbers, NumberFirst, Numbers};
 
-use crate::figures::number;
-use crate::runs::first_piece;
+use text::figures::number;
+use text::runs::first_piece;
 use words::entry::Entry;
 use words::kind::Kind;
 

@@ -1,6 +1,7 @@
 -- What the pieces of a line ask.
 use Rattle.std.specs.Prelude.{◌≡◌, ℕ, ◌%◌, List, [], ◌∷◌, ◌++◌, length, ℤ, codes}
-use Rattle.text.specs.Figures.{Figures}
+use Rattle.std.specs.List.{AllZip}
+use Rattle.text.specs.Figures.{Figures, NumberFirst}
 use Rattle.questions.specs.declared.law.Law.{Law}
 use Rattle.questions.specs.declared.law.Law.TheVariants.{Block, Trapezoid, Yield, Mill}
 
@@ -18,19 +19,8 @@ Takes Yield zs = length zs ≡ 1
 Takes Mill zs = length zs % 2 ≡ 0
 
 -- the pieces are the figures of the numbers, one piece a number
-unfoldable pub Written : List (List ℕ) → List ℤ → Type 0
-Written [] [] = Unit {0}
-Written [] (z ∷ zs) = ⊥
-Written (p ∷ ps) [] = ⊥
-Written (p ∷ ps) (z ∷ zs) = Figures p z × Written ps zs
-
--- the pieces begin with the figures of z
-abbrev pub NumberFirst : List (List ℕ) → ℤ → List (List ℕ) → Type 0
-NumberFirst ps z rest = (piece : List ℕ) × (ps ≡ piece ∷ rest) × Figures piece z
-
--- or with those of no number
-abbrev pub NoNumberFirst : List (List ℕ) → Type 0
-NoNumberFirst ps = (z : ℤ) (rest : List (List ℕ)) → NumberFirst ps z rest → ⊥
+abbrev pub Written : List (List ℕ) → List ℤ → Type 0
+Written = AllZip Figures
 
 -- the pieces begin with the figures of the numbers
 pub record Leading (ps : List (List ℕ)) (zs : List ℤ) (rest : List (List ℕ)) : Type 0 where

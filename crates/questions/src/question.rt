@@ -1,25 +1,29 @@
 // The question that a line asks: a law, its numbers, and the two numbers at which it is asked.
 ghost use Rattle.std.specs.Prelude.{ℤ, IfOk, MatchOption};
+ghost use Rattle.text.specs.Figures.{NoNumberFirst};
 ghost use Rattle.text.specs.Runs.{pieces};
-ghost use Rattle.questions.specs.Questions.{Asks, AsksNothing, At, Leading, NoNumberFirst, NumberFirst, Two};
+ghost use Rattle.questions.specs.Asked.{law_of, numbers_of};
+ghost use Rattle.questions.specs.Questions.{Asks, AsksNothing, At, Leading, Two};
 
-use crate::law::{Law, law_named};
+use crate::law::asked::{Asked, asked_of};
+use crate::law::law_named;
 use std::alloc::{AllocError, Global};
-use text::figures::number;
+use text::figures::first_number;
 use text::runs::first_piece;
 
+/// A law, and the two numbers at which it is asked.
 #[derive(Drop)]
 pub struct Question {
-    pub law: Law,
-    pub numbers: Vec<i64>,
-    // the numbers after `at`
+    pub law: Asked,
+    /// the first number after `at`
     pub n: i64,
+    /// the second number after `at`
     pub m: i64,
 }
 
-// The question that a line asks, if it asks one.
+/// The question that a line asks, if it asks one.
 pub fn question_asked(heap: Global, line: &[u8]) -> Result<Option<Question>, AllocError>
-    ensures { IfOk result (λ o. MatchOption o (AsksNothing (pieces line.now)) (λ q. Asks (pieces line.now) q.law q.numbers.items q.n q.m)) }
+    ensures { IfOk result (λ o. MatchOption o (AsksNothing (pieces line.now)) (λ q. Asks (pieces line.now) (law_of q.law) (numbers_of q.law) q.n q.m)) }
 {
     let Some((name, rest)) = first_piece(line) else {
         return Ok(None);
@@ -28,16 +32,17 @@ pub fn question_asked(heap: Global, line: &[u8]) -> Result<Option<Question>, All
         return Ok(None);
     };
     let (numbers, rest) = leading_numbers(heap, rest)?;
-    if !law.takes(numbers.as_slice()) {
+    let Some((n, m)) = two_at(rest) else {
         return Ok(None);
-    }
-    match two_at(rest) {
-        Some((n, m)) => Ok(Some(Question { law, numbers, n, m })),
-        None => Ok(None),
-    }
+    };
+    let Some(law) = asked_of(heap, law, numbers.as_slice())? else {
+        return Ok(None);
+    };
+    Ok(Some(Question { law, n, m }))
 }
 
 // The numbers with which a line begins, and the line after them.
+#[tactic(auto, using(crate::proofs::Asked::leading_none, crate::proofs::Asked::leading_more))]
 fn leading_numbers(heap: Global, line: &[u8]) -> Result<(Vec<i64>, &[u8]), AllocError>
     ensures { IfOk result (λ p. Leading (pieces line.now) p.0.items (pieces p.1.now) × NoNumberFirst (pieces p.1.now)) }
 {
@@ -48,14 +53,6 @@ fn leading_numbers(heap: Global, line: &[u8]) -> Result<(Vec<i64>, &[u8]), Alloc
         rest = more;
     }
     Ok((numbers, rest))
-}
-
-// The number with which a line begins, and the line after it.
-fn first_number(line: &[u8]) -> Option<(i64, &[u8])>
-    ensures { MatchOption result (NoNumberFirst (pieces line.now)) (λ p. NumberFirst (pieces line.now) p.0 (pieces p.1.now)) }
-{
-    let (piece, rest) = first_piece(line)?;
-    Some((number(piece)?, rest))
 }
 
 // The two numbers of a line that is `at`, these numbers, and nothing else.

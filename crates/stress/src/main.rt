@@ -2,14 +2,9 @@
 #![tactic(auto)]
 
 use answering::replying::reply;
-use std::io;
-use std::io::{Read, Write};
+use std::io::{self, Read, Write};
 
 fn main(rt: HostRuntime) -> io::Result<()> {
-    stress(&rt)
-}
-
-fn stress(rt: &HostRuntime) -> io::Result<()> {
     let heap = rt.alloc();
     let mut text = Vec::new(heap);
     rt.stdin().read_to_end(&mut text)?;

@@ -1,8 +1,7 @@
 -- A number in figures.
-use Rattle.std.specs.Prelude.{◌≡◌, ℕ, ◌<◌, ◌≤◌, true, false, List, length, ℤ, FitsSigned, slice_index}
+use Rattle.std.specs.Prelude.{◌≡◌, ℕ, List, ◌∷◌, ℤ, FitsSigned}
 use Rattle.std.specs.Int.{w64}
 use Rattle.std.specs.Str.Parse.{IsNumeral, without_leading_sign, signed_digits_value}
-use Rattle.std.specs.Char.{is_ascii_digit}
 
 -- decimal digits, one or more, after a sign or none; the number that they write fits 64 bits
 abbrev pub Legible : List ℕ → Type 0
@@ -12,8 +11,10 @@ Legible piece = IsNumeral 10 (without_leading_sign piece) × FitsSigned w64 (sig
 unfoldable pub Figures : List ℕ → ℤ → Type 0
 Figures piece z = Legible piece × (z ≡ signed_digits_value 10 piece)
 
--- the first n bytes are digits, and the next is none unless the piece ends there
-pub record FirstOther (piece : List ℕ) (n : ℕ) : Type 0 where
-  pub within : n ≤ length piece
-  pub before : (k : ℕ) → k < n → is_ascii_digit (slice_index piece k) ≡ true
-  pub at : n < length piece → is_ascii_digit (slice_index piece n) ≡ false
+-- the pieces begin with the figures of z
+abbrev pub NumberFirst : List (List ℕ) → ℤ → List (List ℕ) → Type 0
+NumberFirst ps z rest = (piece : List ℕ) × (ps ≡ piece ∷ rest) × Figures piece z
+
+-- or with those of no number
+abbrev pub NoNumberFirst : List (List ℕ) → Type 0
+NoNumberFirst ps = (z : ℤ) (rest : List (List ℕ)) → NumberFirst ps z rest → ⊥

@@ -1,5 +1,5 @@
 -- How a text is cut into lines, and a line into pieces.
-use Rattle.std.specs.Prelude.{◌≡◌, ℕ, ◌<◌, ◌≤◌, Bool, true, false, cond, ◌||◌, List, [], ◌∷◌, length, ◌==◌, slice_index}
+use Rattle.std.specs.Prelude.{◌≡◌, ℕ, ◌<◌, Bool, cond, ◌||◌, List, [], ◌∷◌, length, ◌==◌}
 use Rattle.text.specs.declared.runs.Separator.{Separator}
 use Rattle.text.specs.declared.runs.Separator.TheVariants.{LineFeed, Blank}
 
@@ -7,12 +7,6 @@ use Rattle.text.specs.declared.runs.Separator.TheVariants.{LineFeed, Blank}
 abbrev pub separates : Separator → ℕ → Bool
 separates LineFeed b = b == 10
 separates Blank b = b == 32 || (b == 9 || b == 13)
-
--- the first n bytes have no separator, and one follows them unless the text ends there
-pub record FirstEnd (s : Separator) (bs : List ℕ) (n : ℕ) : Type 0 where
-  pub within : n ≤ length bs
-  pub before : (k : ℕ) → k < n → separates s (slice_index bs k) ≡ false
-  pub at : n < length bs → separates s (slice_index bs n) ≡ true
 
 -- a byte put before the first run
 abbrev pub onto : ℕ → List (List ℕ) → List (List ℕ)

@@ -1,59 +1,55 @@
 // A text cut into lines, and a line into pieces.
-ghost use Rattle.std.specs.Prelude.{◌≡◌, [], ◌∷◌, MatchOption};
-ghost use Rattle.text.specs.Runs.{separates, FirstEnd, FirstRun, pieces};
+ghost use Rattle.std.specs.Prelude.{◌≡◌, [], ◌∷◌, not, position, MatchOption};
+ghost use Rattle.text.specs.Runs.{separates, FirstRun, pieces};
 
-// What ends a run of bytes: a line feed ends a line; a space, a tab or a carriage return ends a piece of a line.
+/// What ends a run of bytes.
 #[derive(Clone, Copy)]
 pub enum Separator {
+    /// A line feed ends a line.
     LineFeed,
+    /// A space, a tab or a carriage return ends a piece of a line.
     Blank,
 }
 
 impl Separator {
-    fn ends(&self, byte: u8) -> bool
-        ensures { result ≡ separates self.now byte }
+    fn ends(self, byte: u8) -> bool
+        ensures { result ≡ separates self byte }
     {
-        match *self {
+        match self {
             Separator::LineFeed => byte == b'\n',
-            Separator::Blank => byte == b' ' || byte == b'\t' || byte == b'\r',
+            Separator::Blank => matches!(byte, b' ' | b'\t' | b'\r'),
         }
+    }
+
+    // Where the first separator stands.
+    fn first_in(self, bytes: &[u8]) -> Option<usize>
+        ensures { result ≡ position (separates self) bytes.now }
+    {
+        bytes.iter().position(|byte| self.ends(*byte))
+    }
+
+    // Where the first byte stands that is none.
+    fn first_other_in(self, bytes: &[u8]) -> Option<usize>
+        ensures { result ≡ position (λ b. not (separates self b)) bytes.now }
+    {
+        bytes.iter().position(|byte| !self.ends(*byte))
     }
 }
 
-// How many bytes stand before the first separator.
-fn length_before(bytes: &[u8], separator: Separator) -> usize
-    ensures { FirstEnd separator bytes.now result }
-{
-    for (i, byte) in bytes.iter().enumerate() {
-        if separator.ends(*byte) {
-            return i;
-        }
-    }
-    bytes.len()
-}
-
-// The first run of bytes, and what follows the separator that ends it.
+/// The first run of bytes, and what follows the separator that ends it.
 pub fn first_run(bytes: &[u8], separator: Separator) -> (&[u8], &[u8])
     ensures { FirstRun separator bytes.now result.0.now result.1.now }
 {
-    let (run, rest) = bytes.split_at(length_before(bytes, separator));
-    match rest {
-        [_, more @ ..] => (run, more),
-        [] => (run, rest),
+    match separator.first_in(bytes) {
+        Some(end) => (&bytes[..end], &bytes[end + 1..]),
+        None => (bytes, &[]),
     }
 }
 
-// The first piece of a line, and the line after it.
+/// The first piece of a line, and the line after it.
 pub fn first_piece(line: &[u8]) -> Option<(&[u8], &[u8])>
     ensures { MatchOption result (pieces line.now ≡ []) (λ p. pieces line.now ≡ p.0.now ∷ pieces p.1.now) }
 {
-    let mut rest = line;
-    while !rest.is_empty() {
-        let (piece, more) = first_run(rest, Separator::Blank);
-        if !piece.is_empty() {
-            return Some((piece, more));
-        }
-        rest = more;
-    }
-    None
+    let start = Separator::Blank.first_other_in(line)?;
+    Some(first_run(&line[start..], Separator::Blank))
 }

@@ -1,11 +1,11 @@
--- A name without the numbers of its kind spells no entry.
+-- After a name, the numbers of its kind spell an entry, and without them nothing does.
 use Rattle.std.proofs.Common.{◌≡◌, ◌∷◌, rules}
+use Rattle.text.specs.Runs.{pieces}
 use Rattle.words.specs.Kinds.{name_of}
-use Rattle.composing.specs.Runs.{pieces}
-use Rattle.composing.proofs.Spelt.{not_spelt}
+use Rattle.composing.proofs.Spelt.{spelt_by}
 use Rattle.composing.proofs.line.entry_spelt.Goals as goal
 
-pub returns-in-None : goal.returns-in-None
-returns-in-None c =
-    let p : pieces c.args.line.now ≡ name_of c.in-Some-kind_named.kind ∷ pieces c.in-Some.rest.now = search rules in
-    ((pieces c.in-Some.rest.now, p), not_spelt _ _ _ p c.in-None.ensures)
+pub returns : goal.returns
+returns c =
+    let p : pieces c.args.line.now ≡ name_of c.in_ok-kind.kind ∷ pieces c.in_ok-name.rest.now = search rules in
+    spelt_by _ _ _ c.entry_of_kind.result _ p c.entry_of_kind.ensures c.ok_or-3.ensures.value

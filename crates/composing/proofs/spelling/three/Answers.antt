@@ -2,7 +2,7 @@
 use Rattle.std.proofs.Common.{[], ◌∷◌, w64, SFits, rules}
 use Rattle.std.proofs.lemmas.Int.{to_z-of_z}
 use Rattle.words.specs.Lines.{labelled}
-use Rattle.composing.specs.Runs.{pieces}
+use Rattle.text.specs.Runs.{pieces}
 use Rattle.composing.proofs.Spelt.{numbers_after}
 use Rattle.composing.proofs.spelling.three.Goals as goal
 

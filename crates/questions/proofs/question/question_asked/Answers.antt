@@ -1,19 +1,12 @@
--- Where the numbers are not as many as the law takes, or `at` and two more do not follow them, nothing is asked.
-use Rattle.std.proofs.Common.{◌≡◌, ◌∷◌, rules}
-use Rattle.text.specs.Runs.{pieces}
-use Rattle.questions.specs.Questions.{name_of}
-use Rattle.questions.proofs.Asked.{asked_read}
+-- Where `at` and two numbers do not follow the law's numbers, or the law does not take them, nothing is asked.
+use Rattle.std.proofs.Common.{rules}
+use Rattle.questions.proofs.Asked.{not_at, not_taken}
 use Rattle.questions.proofs.question.question_asked.Goals as goal
 
-pub returns-then-not-takes : goal.returns-then-not-takes
-returns-then-not-takes c = λ law zs n m asks.
-    let name : pieces c.args.line.now ≡ name_of c.in-Some-law_named.law ∷ pieces c.in-Some.rest.now = search rules in
-    let read = c.in_ok-numbers.ensures in
-    let takes = (asked_read _ _ _ _ _ name read.0 read.1 law zs n m asks).0 in
-    search rules
+pub returns-in_default-two_at : goal.returns-in_default-two_at
+returns-in_default-two_at c =
+    not_at _ _ _ _ _ _ c.in-Some.ensures c.in-Some-law_named.ensures c.in_ok-numbers.ensures c.in_default-two_at.ensures
 
-pub returns-in-None : goal.returns-in-None
-returns-in-None c = λ law zs n m asks.
-    let name : pieces c.args.line.now ≡ name_of c.in-Some-law_named.law ∷ pieces c.in-Some.rest.now = search rules in
-    let read = c.in_ok-numbers.ensures in
-    c.in-None.ensures n m (asked_read _ _ _ _ _ name read.0 read.1 law zs n m asks).1
+pub returns-in_default-2 : goal.returns-in_default-2
+returns-in_default-2 c =
+    not_taken _ _ _ _ _ _ c.in-Some.ensures c.in-Some-law_named.ensures c.in_ok-numbers.ensures (search rules)

@@ -1,6 +1,11 @@
--- A piece is all digits exactly where its end comes before any other byte.
-use Rattle.text.proofs.Readings.{counted_digits}
+-- A piece is all digits exactly where each byte is one.
+use Rattle.std.proofs.Common.{rules}
+use borrow.Author.Tests.{tests}
+use Rattle.std.specs.Char.{is_ascii_digit}
+use Rattle.std.proofs.lemmas.Iterator.{YieldsList-from_slice}
+use Rattle.std.proofs.lemmas.Iterator.Search.{all_from_yields_List}
 use Rattle.text.proofs.figures.all_digits.Goals as goal
 
 pub returns : goal.returns
-returns c = counted_digits _ _ c.leading_digits.ensures
+returns c =
+    all_from_yields_List is_ascii_digit _ _ _ c.all.ensures.ran (YieldsList-from_slice c.args.piece.now cc) (λ x b q k. search (rules, tests))

@@ -1,13 +1,11 @@
--- Empty runs are passed over.
-use Rattle.std.proofs.Common.{◌∙◌, rules}
-use Rattle.text.proofs.Cuts.{no_piece, one_piece, no_pieces}
+-- A line of blanks has no piece; any other begins where its blanks end.
+use Rattle.std.proofs.Common.{sym}
+use Rattle.std.proofs.lemmas.List.{take_rest}
+use Rattle.text.proofs.Cuts.{first_piece, no_piece}
 use Rattle.text.proofs.runs.first_piece.Goals as goal
 
-pub returns-then-not-is_empty : goal.returns-then-not-is_empty
-returns-then-not-is_empty c = c.loop-rest.invariant ∙ one_piece _ _ _ (search rules) c.first_run.ensures (search rules)
-
-pub loop-rest-preserved : goal.loop-rest-preserved
-loop-rest-preserved c = c.loop-rest.invariant ∙ no_piece _ _ _ (search rules) c.first_run.ensures (search rules)
+pub returns-in_err-start : goal.returns-in_err-start
+returns-in_err-start c = rw c.from_residual.ensures (no_piece c.args.line.now (sym c.in_err-start.ensures))
 
 pub returns : goal.returns
-returns c = c.loop-rest.invariant ∙ no_pieces _ (search rules)
+returns c = first_piece c.args.line.now _ _ c.in_ok-start.start (sym c.in_ok-start.ensures) (rw take_rest at c.first_run.ensures)

@@ -1,14 +1,11 @@
 -- The bytes are cut at the first separator, or have none.
-use Rattle.std.proofs.Common.{drop, sym, ap, ◌∙◌, rules}
-use Rattle.std.proofs.lemmas.List.{nil_from_length, take_rest}
-use Rattle.text.proofs.Cuts.{first_run}
+use Rattle.std.proofs.Common.{◌+◌, sym}
+use Rattle.std.proofs.lemmas.List.{take_rest}
+use Rattle.text.proofs.Cuts.{first_run_cut, first_run_whole}
 use Rattle.text.proofs.runs.first_run.Goals as goal
 
-pub returns-in-empty : goal.returns-in-empty
-returns-in-empty c =
-    let e = nil_from_length c.split_at.result.1.now (search rules) in
-    first_run c.args.separator c.args.bytes.now _ c.split_at.result.1.now _ c.length_before.result c.length_before.ensures c.split_at.ensures.front c.split_at.ensures.back (e ∙ ap (drop 1) (sym e))
+pub returns-in-Some : goal.returns-in-Some
+returns-in-Some c = first_run_cut _ _ _ _ (sym c.in-Some.ensures) (take_rest c.args.bytes.now (c.in-Some.end + 1))
 
-pub returns-in-len1-up : goal.returns-in-len1-up
-returns-in-len1-up c =
-    first_run c.args.separator c.args.bytes.now _ c.split_at.result.1.now _ c.length_before.result c.length_before.ensures c.split_at.ensures.front c.split_at.ensures.back (take_rest c.split_at.result.1.now 1)
+pub returns-in-None : goal.returns-in-None
+returns-in-None c = first_run_whole _ _ (sym c.in-None.ensures)
