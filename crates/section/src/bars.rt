@@ -75,7 +75,9 @@ pub fn bar_at(position: usize) -> Option<Bar>
 pub fn position_of(number: i64) -> Option<usize>
     ensures { MatchOption result ((i : ℕ) → Numbered number i → ⊥) (λ i. Numbered number i) }
 {
-    table().iter().position(|bar| i64::from(bar.number) == number)
+    table()
+        .iter()
+        .position(|bar| i64::from(bar.number) == number)
 }
 
 /// The bar with this number.
