@@ -1,4 +1,4 @@
--- Four bytes at the front of a stream are the bytes of the word that they join to, and a stream is cut in one way alone.
+-- The words of the chunks of a stream have its bytes, and a stream is cut in one way alone.
 use Rattle.std.proofs.Common.{◌≡◌, ℕ, zero, suc, ◌*◌, map, w32, ◌/◌, ◌%◌, ◌^◌, ◌<◌, ◌≤◌, List, [], ◌∷◌, ◌++◌, length, get_or, drop, refl, ap, arith}
 use Rattle.std.specs.Int.{from_be_bytes}
 use Rattle.std.specs.Simd.{first_chunks}
