@@ -1,7 +1,7 @@
 // Each kind of word at the edges of its fields, read and written; words that stand for nothing.
 use words::entry::Entry;
 use words::fault::Fault;
-use words::word::{read, write};
+use words::kind::Kind;
 
 const WORDS: [(u32, Entry); 24] = [
     (
@@ -132,17 +132,25 @@ const NO_ENTRIES: [u32; 12] = [
 #[test]
 fn words_stand_for_entries(rt: HostRuntime) {
     for (word, entry) in WORDS.iter() {
-        assert_eq!(rt; read(*word), Ok(*entry));
-        assert_eq!(rt; write(entry), Ok(*word));
+        assert_eq!(rt; Entry::try_from(*word), Ok(*entry));
+        assert_eq!(rt; u32::try_from(*entry), Ok(*word));
     }
 }
 
 #[test]
 fn words_stand_for_nothing(rt: HostRuntime) {
     for word in NO_ENTRIES.iter() {
-        assert_eq!(rt; read(*word), Err(Fault::Unreadable));
+        assert_eq!(rt; Entry::try_from(*word), Err(Fault::Unreadable));
     }
-    assert_eq!(rt; Fault::Unreadable.number(), 13);
-    assert_eq!(rt; Fault::Unwritable.number(), 13);
-    assert_eq!(rt; Fault::Unfinished.number(), 15);
+    assert_eq!(rt; u32::from(Fault::Unreadable), 13);
+    assert_eq!(rt; u32::from(Fault::Unwritable), 13);
+    assert_eq!(rt; u32::from(Fault::Unfinished), 15);
+}
+
+#[test]
+fn codes_stand_for_kinds(rt: HostRuntime) {
+    assert_eq!(rt; Kind::try_from(1), Ok(Kind::Open));
+    assert_eq!(rt; Kind::try_from(7), Ok(Kind::Solve));
+    assert_eq!(rt; Kind::try_from(0), Err(Fault::Unreadable));
+    assert_eq!(rt; Kind::try_from(8), Err(Fault::Unreadable));
 }

@@ -1,7 +1,6 @@
 // Entries that fit no word.
 use words::entry::Entry;
 use words::fault::Fault;
-use words::word::write;
 
 const NO_WORDS: [Entry; 28] = [
     Entry::Open {
@@ -95,6 +94,6 @@ const NO_WORDS: [Entry; 28] = [
 #[test]
 fn entries_fit_no_word(rt: HostRuntime) {
     for entry in NO_WORDS.iter() {
-        assert_eq!(rt; write(entry), Err(Fault::Unwritable));
+        assert_eq!(rt; u32::try_from(*entry), Err(Fault::Unwritable));
     }
 }

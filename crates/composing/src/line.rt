@@ -9,7 +9,6 @@ use crate::spelling::{entry_of_kind, kind_named};
 use text::figures::all_digits;
 use text::runs::first_piece;
 use words::entry::Entry;
-use words::word::write;
 
 // The word that a line asks for, or none where the line is skipped.
 pub(crate) fn word_asked(line: &[u8]) -> Result<Option<u32>, Expected>
@@ -19,7 +18,7 @@ pub(crate) fn word_asked(line: &[u8]) -> Result<Option<u32>, Expected>
         return Ok(None);
     }
     let entry = entry_spelt(after_index(line))?;
-    match write(&entry) {
+    match u32::try_from(entry) {
         Ok(word) => Ok(Some(word)),
         Err(_) => Err(Expected::Fit(entry.kind())),
     }

@@ -1,19 +1,13 @@
--- A text of lines grows word by word, and at the last word lists them all.
-use Rattle.std.proofs.Common.{◌≡◌, ℕ, suc, ◌+◌, ◌<◌, ◌≤◌, List, [], ◌++◌, length, get_or, drop, refl, subst, add-one}
-use Rattle.std.proofs.lemmas.List.{append_assoc, append-nil, drop_all, drop_more}
+-- A text that lists words, and then the line of the next word, lists one word more.
+use Rattle.std.proofs.Common.{◌≡◌, ℕ, suc, ◌+◌, ◌<◌, List, [], ◌∷◌, ◌++◌, length, get_or, take, sym, refl, subst, arith}
+use Rattle.std.proofs.lemmas.List.{append_assoc, append-nil, length-take-le, take_more}
 use Rattle.listing.specs.Listing.{Line, Lines}
 
--- whatever lists the words from i on, the text so far and it list them all
-abbrev pub Ahead : ℕ → List ℕ → List ℕ → Type 0
-Ahead i ws text = (t : List ℕ) → Lines i (drop i ws) t → Lines 0 ws (text ++ t)
+lines_push : (n i : ℕ) (ws : List ℕ) (w : ℕ) (text line : List ℕ) → i ≡ n + length ws → Lines n ws text → Line i w line → Lines n (ws ++ w ∷ []) (text ++ line)
+lines_push n i [] w text line e h l = rw h (line, [], sym (append-nil line), subst (λ j. Line j w line) (omega arith) l, refl)
+lines_push n i (v ∷ ws) w text line e h l =
+    (h.0, h.1 ++ line, rw h.2 (append_assoc h.0 h.1 line), h.3, lines_push (suc n) i ws w h.1 line (omega arith) h.4 l)
 
-pub ahead_more : (ws text longer : List ℕ) (i : ℕ) (line piece : List ℕ) → i < length ws → Ahead i ws text → Line i (get_or ws i 0) line → piece ≡ line → longer ≡ text ++ piece → Ahead (i + 1) ws longer
-ahead_more ws text longer i line piece l h k p e t m =
-    let s : Lines (suc i) (drop (i + 1) ws) t = subst (λ n. Lines n (drop (i + 1) ws) t) (add-one i) m in
-    let g : Lines i (drop i ws) (line ++ t) = rw (drop_more ws i 0 l) (line, t, refl, k, s) in
-    rw e (rw p (rw (append_assoc text line t) (h (line ++ t) g)))
-
-pub ahead_all : (ws text : List ℕ) (i : ℕ) → length ws ≤ i → Ahead i ws text → Lines 0 ws text
-ahead_all ws text i l h =
-    let g : Lines i (drop i ws) [] = rw (drop_all i ws l) refl in
-    subst (λ t. Lines 0 ws t) (append-nil text) (h [] g)
+pub lines_more : (ws text line : List ℕ) (i : ℕ) → i < length ws → Lines 0 (take i ws) text → Line i (get_or ws i 0) line → Lines 0 (take (i + 1) ws) (text ++ line)
+lines_more ws text line i h t l =
+    rw (take_more ws i 0 h) (lines_push 0 i (take i ws) (get_or ws i 0) text line (omega (arith, length-take-le i ws)) t l)

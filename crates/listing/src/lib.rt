@@ -5,11 +5,11 @@ ghost use Rattle.std.specs.Prelude.{◌≡◌, IfOk, string_bytes};
 ghost use Rattle.listing.specs.Listing.{Line, Lines, Listed, refused_line};
 
 use std::alloc::{AllocError, Global};
+use words::entry::Entry;
 use words::fault::Fault;
 use words::stream::cut;
-use words::word::read;
 
-// A stream of bytes, listed: a line for each whole word, and one for the bytes that are left over.
+/// A stream of bytes, listed: a line for each whole word, and one for the bytes that are left over.
 pub fn list(heap: Global, bytes: &[u8]) -> Result<String, AllocError>
     ensures { IfOk result (λ s. Listed bytes.now (string_bytes s)) }
 {
@@ -19,7 +19,7 @@ pub fn list(heap: Global, bytes: &[u8]) -> Result<String, AllocError>
         return Ok(text);
     }
     let index = words.len();
-    text.push_str(refused(heap, Fault::Unfinished.number(), index)?.as_str())?;
+    text.push_str(refused(heap, Fault::Unfinished, index)?.as_str())?;
     Ok(text)
 }
 
@@ -37,15 +37,15 @@ fn lines(heap: Global, words: &[u32]) -> Result<String, AllocError>
 fn line(heap: Global, index: usize, word: u32) -> Result<String, AllocError>
     ensures { IfOk result (λ s. Line index word (string_bytes s)) }
 {
-    match read(word) {
+    match Entry::try_from(word) {
         Ok(entry) => format!(in heap; "{index} {entry}\n"),
-        Err(fault) => refused(heap, fault.number(), index),
+        Err(fault) => refused(heap, fault, index),
     }
 }
 
 // The line of a refusal at an index.
-fn refused(heap: Global, number: u32, index: usize) -> Result<String, AllocError>
-    ensures { IfOk result (λ s. string_bytes s ≡ refused_line number index) }
+fn refused(heap: Global, fault: Fault, index: usize) -> Result<String, AllocError>
+    ensures { IfOk result (λ s. string_bytes s ≡ refused_line fault index) }
 {
-    format!(in heap; "refused {number} at {index}\n")
+    format!(in heap; "{fault} at {index}\n")
 }

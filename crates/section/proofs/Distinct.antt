@@ -1,33 +1,33 @@
 -- No two bars of the table have one number, and each number is small.
-use Rattle.std.proofs.Common.{◌≡◌, ℕ, zero, suc, ◌-◌, ◌^◌, ◌<◌, cond, ltb, ℤ, sym, refl, ap, ◌∙◌, arith, lit<}
+use Rattle.std.proofs.Common.{◌≡◌, ℕ, ◌^◌, ◌<◌, true, false, eqb, ltb, ℤ, rules, refl, arith}
 use borrow.Author.Differences.{ints}
-use Rattle.section.specs.Bars.{bar_at, rows, Numbered}
+use Rattle.std.specs.List.{IsDistinct, list_all}
+use Rattle.std.proofs.lemmas.Bool.Decides.{nat_tests}
+use Rattle.std.proofs.lemmas.List.Sums.{AllPass-from_list_all}
+use Rattle.std.proofs.lemmas.Map.Keys.{apart_from_distinct}
+use Rattle.section.specs.declared.bars.Bar.{Bar}
+use Rattle.section.specs.Bars.{bars, bar_at, rows, Numbered}
 
--- the position of a bar by its number: the numbers run from 3 to 11, then come 14 and 18
-abbrev position_of : ℕ → ℕ
-position_of n = cond (ltb n 12) (n - 3) (cond (ltb n 15) 9 10)
+-- both by computing
+distinct : IsDistinct (λ (a b : Bar). eqb a.number b.number) bars
+unfolding IsDistinct
+distinct = search rules
 
--- each row, by computing
-row_facts : (i : ℕ) → i < rows → (position_of (bar_at i).number ≡ i) × ((bar_at i).number < 2 ^ 8)
-unfolding bar_at
-row_facts zero h = (refl, lit< tt)
-row_facts (suc zero) h = (refl, lit< tt)
-row_facts (suc (suc zero)) h = (refl, lit< tt)
-row_facts (suc (suc (suc zero))) h = (refl, lit< tt)
-row_facts (suc (suc (suc (suc zero)))) h = (refl, lit< tt)
-row_facts (suc (suc (suc (suc (suc zero))))) h = (refl, lit< tt)
-row_facts (suc (suc (suc (suc (suc (suc zero)))))) h = (refl, lit< tt)
-row_facts (suc (suc (suc (suc (suc (suc (suc zero))))))) h = (refl, lit< tt)
-row_facts (suc (suc (suc (suc (suc (suc (suc (suc zero)))))))) h = (refl, lit< tt)
-row_facts (suc (suc (suc (suc (suc (suc (suc (suc (suc zero))))))))) h = (refl, lit< tt)
-row_facts (suc (suc (suc (suc (suc (suc (suc (suc (suc (suc zero)))))))))) h = (refl, lit< tt)
-row_facts (suc (suc (suc (suc (suc (suc (suc (suc (suc (suc (suc i))))))))))) h = absurd (omega arith)
+small : list_all (λ (b : Bar). ltb b.number (2 ^ 8)) bars ≡ true
+small = refl
 
 -- a bar's number is small
 pub small_number : (i : ℕ) → i < rows → (bar_at i).number < 2 ^ 8
-small_number i h = (row_facts i h).1
+unfolding bar_at
+small_number i h =
+    let below : ltb (bar_at i).number (2 ^ 8) ≡ true = AllPass-from_list_all (λ (b : Bar). ltb b.number (2 ^ 8)) bars small i _ h in
+    grind (arith, nat_tests)
+
+no_later : (z : ℤ) (i j : ℕ) → Numbered z i → Numbered z j → i < j → ⊥
+unfolding bar_at
+no_later z i j h g l =
+    let apart : eqb (bar_at i).number (bar_at j).number ≡ false = apart_from_distinct _ bars i j _ distinct l g.0 in
+    grind (arith, nat_tests, ints)
 
 pub one_position : (z : ℤ) (i j : ℕ) → Numbered z i → Numbered z j → i ≡ j
-one_position z i j h g =
-    let e : (bar_at i).number ≡ (bar_at j).number = omega (arith, ints) in
-    sym (row_facts i h.0).0 ∙ ap position_of e ∙ (row_facts j g.0).0
+one_position z i j h g = omega (arith, no_later z i j h g, no_later z j i g h)

@@ -2,16 +2,14 @@
 ghost use Rattle.std.specs.Prelude.{◌≡◌, ℕ, ◌<◌, ◌≤◌, MatchOption};
 ghost use Rattle.section.specs.Bars.{bars, bar_at, rows, Numbered};
 
-// A size of bar: its number, and its area in square ticks (a tick is 0.01 inch).
+/// A size of bar: its number, and its area in square ticks (a tick is 0.01 inch).
 #[derive(Clone, Copy, PartialEq, Eq, Debug)]
 pub struct Bar {
     pub number: u32,
     pub area: u32,
 }
 
-const ROWS: usize = 11;
-
-const BARS: [Bar; ROWS] = [
+const BARS: [Bar; 11] = [
     Bar {
         number: 3,
         area: 1100,
@@ -58,46 +56,33 @@ const BARS: [Bar; ROWS] = [
     },
 ];
 
-// The whole table, in order.
+/// The whole table, in order.
 pub fn table() -> &'static [Bar]
     ensures { result.now ≡ bars }
 {
     &BARS
 }
 
-fn row(position: usize) -> Bar
-    requires { position < rows }
-    ensures { result ≡ bar_at position }
-{
-    BARS[position]
-}
-
-// The bar at a position of the table, counted from 0.
+/// The bar at a position of the table, counted from 0.
+#[tactic(auto, unfolding(crate::specs::Bars::bar_at))]
 pub fn bar_at(position: usize) -> Option<Bar>
     ensures { MatchOption result (rows ≤ position) (λ b. (position < rows) × (b ≡ bar_at position)) }
 {
-    if position < ROWS {
-        Some(row(position))
-    } else {
-        None
-    }
+    table().get(position).copied()
 }
 
-// The position in the table of the bar with this number.
+/// The position in the table of the bar with this number.
 pub fn position_of(number: i64) -> Option<usize>
     ensures { MatchOption result ((i : ℕ) → Numbered number i → ⊥) (λ i. Numbered number i) }
 {
-    for position in 0..ROWS {
-        if row(position).number as i64 == number {
-            return Some(position);
-        }
-    }
-    None
+    table()
+        .iter()
+        .position(|bar| i64::from(bar.number) == number)
 }
 
-// The bar with this number.
+/// The bar with this number.
 pub fn bar_numbered(number: i64) -> Option<Bar>
     ensures { MatchOption result ((i : ℕ) → Numbered number i → ⊥) (λ b. (i : ℕ) × Numbered number i × (b ≡ bar_at i)) }
 {
-    bar_at(position_of(number)?)
+    position_of(number).and_then(bar_at)
 }

@@ -1,31 +1,26 @@
--- Four bytes at the front of a stream are the bytes of the word that they join to, and a stream is cut in one way alone.
-use Rattle.std.proofs.Common.{◌≡◌, ℕ, ◌-◌, ◌/◌, ◌%◌, ◌^◌, ◌<◌, ◌≤◌, List, [], ◌∷◌, ◌++◌, length, get_or, take, drop, refl, ap, arith}
-use Rattle.std.proofs.lemmas.List.{append_assoc, take_rest}
-use Rattle.words.specs.Streams.{joined, spread}
+-- The words of the chunks of a stream have its bytes, and a stream is cut in one way alone.
+use Rattle.std.proofs.Common.{◌≡◌, ℕ, zero, suc, ◌*◌, map, w32, ◌/◌, ◌%◌, ◌^◌, ◌<◌, ◌≤◌, List, [], ◌∷◌, ◌++◌, length, get_or, drop, refl, ap, arith}
+use Rattle.std.specs.Int.{from_be_bytes}
+use Rattle.std.specs.Simd.{first_chunks}
+use Rattle.words.specs.Streams.{spread}
 
 pub spread_append : (ws vs : List ℕ) → spread (ws ++ vs) ≡ spread ws ++ spread vs
 spread_append [] vs = refl
 spread_append (x ∷ ws) vs = ap (λ l. (x / 2 ^ 24) ∷ (x / 2 ^ 16 % 2 ^ 8) ∷ (x / 2 ^ 8 % 2 ^ 8) ∷ (x % 2 ^ 8) ∷ l) (spread_append ws vs)
 
-spread_joined : (a b c d : ℕ) (rest : List ℕ) → a < 2 ^ 8 → b < 2 ^ 8 → c < 2 ^ 8 → d < 2 ^ 8 → spread (joined a b c d ∷ []) ++ rest ≡ a ∷ b ∷ c ∷ d ∷ rest
-spread_joined a b c d rest ha hb hc hd =
-    let e0 : joined a b c d / 2 ^ 24 ≡ a = omega arith in
-    let e1 : joined a b c d / 2 ^ 16 % 2 ^ 8 ≡ b = omega arith in
-    let e2 : joined a b c d / 2 ^ 8 % 2 ^ 8 ≡ c = omega arith in
-    let e3 : joined a b c d % 2 ^ 8 ≡ d = omega arith in
-    rw e0 (rw e1 (rw e2 (rw e3 refl)))
-
-front : (xs : List ℕ) → 4 ≤ length xs → get_or xs 0 0 < 2 ^ 8 → get_or xs 1 0 < 2 ^ 8 → get_or xs 2 0 < 2 ^ 8 → get_or xs 3 0 < 2 ^ 8 → spread (joined (get_or xs 0 0) (get_or xs 1 0) (get_or xs 2 0) (get_or xs 3 0) ∷ []) ++ drop 4 xs ≡ xs
-front [] h p q r t = absurd (omega arith)
-front (a ∷ []) h p q r t = absurd (omega arith)
-front (a ∷ b ∷ []) h p q r t = absurd (omega arith)
-front (a ∷ b ∷ c ∷ []) h p q r t = absurd (omega arith)
-front (a ∷ b ∷ c ∷ d ∷ rest) h p q r t = spread_joined a b c d rest p q r t
-
--- one word more, and what is left of the stream after it
-pub spread_more : (ws vs xs all : List ℕ) (w : ℕ) → 4 ≤ length xs → get_or xs 0 0 < 2 ^ 8 → get_or xs 1 0 < 2 ^ 8 → get_or xs 2 0 < 2 ^ 8 → get_or xs 3 0 < 2 ^ 8 → all ≡ spread ws ++ xs → w ≡ joined (get_or xs 0 0) (get_or xs 1 0) (get_or xs 2 0) (get_or xs 3 0) → vs ≡ ws ++ (w ∷ []) → all ≡ spread vs ++ take (length xs - 4) (drop 4 xs)
-spread_more ws vs xs all w h p q r t e i k =
-    rw (take_rest xs 4) (rw k (rw (spread_append ws (w ∷ [])) (rw (append_assoc (spread ws) (spread (w ∷ [])) (drop 4 xs)) (rw i (rw (front xs h p q r t) e)))))
+-- the bytes of the words of a stream's chunks, and then what is left over, are the stream
+pub spread_chunks : (k : ℕ) (bs : List ℕ) → k * 4 ≤ length bs → ((i : ℕ) → get_or bs i 0 < 2 ^ 8) → spread (map (from_be_bytes w32) (first_chunks 4 k bs)) ++ drop (k * 4) bs ≡ bs
+spread_chunks zero bs h b = refl
+spread_chunks (suc k) (x ∷ y ∷ z ∷ t ∷ bs) h b =
+    let w = from_be_bytes w32 (x ∷ y ∷ z ∷ t ∷ []) in
+    let e0 : w / 2 ^ 24 ≡ x = omega (arith, b 0, b 1, b 2, b 3) in
+    let e1 : w / 2 ^ 16 % 2 ^ 8 ≡ y = omega (arith, b 0, b 1, b 2, b 3) in
+    let e2 : w / 2 ^ 8 % 2 ^ 8 ≡ z = omega (arith, b 0, b 1, b 2, b 3) in
+    let e3 : w % 2 ^ 8 ≡ t = omega (arith, b 0, b 1, b 2, b 3) in
+    let rest = spread_chunks k bs (omega arith) (λ i. b (suc (suc (suc (suc i))))) in
+    let four : suc k * 4 ≡ suc (suc (suc (suc (k * 4)))) = omega arith in
+    rw (e0, e1, e2, e3, four) (ap (λ l. x ∷ y ∷ z ∷ t ∷ l) rest)
+spread_chunks (suc k) bs h b = absurd (omega arith)
 
 one_word_of_bytes : (v w : ℕ) → v / 2 ^ 24 ≡ w / 2 ^ 24 → v / 2 ^ 16 % 2 ^ 8 ≡ w / 2 ^ 16 % 2 ^ 8 → v / 2 ^ 8 % 2 ^ 8 ≡ w / 2 ^ 8 % 2 ^ 8 → v % 2 ^ 8 ≡ w % 2 ^ 8 → v ≡ w
 one_word_of_bytes v w a b c d = omega arith

@@ -1,12 +1,16 @@
 -- A word stands for at most one entry, and an entry has at most one word; so the reader and the writer undo each other.
-use Rattle.std.proofs.Common.{◌≡◌, ℕ, ◌+◌, ◌*◌, ◌/◌, ◌%◌, ◌^◌, Ok, Err, Result, sym, ap, ◌∙◌, subst, arith}
+use Rattle.std.proofs.Common.{◌≡◌, ℕ, ◌+◌, ◌*◌, ◌/◌, ◌%◌, ◌^◌, Ok, Err, Result, sym, ap, ◌∙◌, subst, rules, arith}
 use borrow.Author.Differences.{ints}
 use Rattle.std.proofs.lemmas.Nat.{mod-pow-add, div-add-mod', shr-shr}
 use Rattle.section.proofs.Distinct.{one_position}
 use Rattle.words.specs.declared.entry.Entry.{Entry}
 use Rattle.words.specs.declared.entry.Entry.TheVariants.{Open, Lay, Place, Lift, Axial, Moment, Solve}
 use Rattle.words.specs.declared.fault.Fault.{Fault}
-use Rattle.words.specs.Words.{Stands, Read, Written, OneEntry, OneWord, bits}
+use Rattle.words.specs.Kinds.{kind_of}
+use Rattle.words.specs.Words.{code_of, kind, Stands, Read, Written, OneEntry, OneWord, bits}
+
+pub kind_stands : (e : Entry) (w : ℕ) → Stands e w → kind w ≡ code_of (kind_of e)
+kind_stands e w h = search rules
 
 pub one_entry : (e f : Entry) (w : ℕ) → Stands e w → Stands f w → e ≡ f
 one_entry e f w h g = grind (arith, ints)

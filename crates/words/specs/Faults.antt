@@ -1,5 +1,5 @@
--- The numbers of refusals.
-use Rattle.std.specs.Prelude.{ℕ}
+-- The numbers of refusals, and how a refusal is told.
+use Rattle.std.specs.Prelude.{ℕ, List, ◌++◌, codes, decimal}
 use Rattle.words.specs.declared.fault.Fault.{Fault}
 use Rattle.words.specs.declared.fault.Fault.TheVariants.{Unreadable, Unwritable, Unfinished}
 
@@ -8,3 +8,7 @@ abbrev pub refusal : Fault → ℕ
 refusal Unreadable = 13
 refusal Unwritable = 13
 refusal Unfinished = 15
+
+-- a refusal in words and figures
+abbrev pub refused : Fault → List ℕ
+refused fault = codes "refused " ++ decimal (refusal fault)

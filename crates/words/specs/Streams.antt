@@ -1,9 +1,5 @@
 -- A stream of bytes as words.
-use Rattle.std.specs.Prelude.{◌≡◌, ℕ, ◌+◌, ◌*◌, ◌/◌, ◌%◌, ◌^◌, ◌<◌, List, [], ◌∷◌, ◌++◌, length}
-
--- the word of four bytes, the highest first
-abbrev pub joined : ℕ → ℕ → ℕ → ℕ → ℕ
-joined a b c d = a * 2 ^ 24 + b * 2 ^ 16 + c * 2 ^ 8 + d
+use Rattle.std.specs.Prelude.{◌≡◌, ℕ, ◌/◌, ◌%◌, ◌^◌, ◌<◌, List, [], ◌∷◌, ◌++◌, length}
 
 -- the bytes of words, of each the highest first
 abbrev pub spread : List ℕ → List ℕ

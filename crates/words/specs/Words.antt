@@ -5,6 +5,8 @@ use Rattle.std.specs.List.{AllByRecursion}
 use Rattle.words.specs.Streams.{Cut}
 use Rattle.words.specs.declared.entry.Entry.{Entry}
 use Rattle.words.specs.declared.entry.Entry.TheVariants.{Open, Lay, Place, Lift, Axial, Moment, Solve}
+use Rattle.words.specs.declared.kind.Kind.{Kind}
+use Rattle.words.specs.declared.kind.Kind.TheVariants as kinds
 use Rattle.words.specs.declared.fault.Fault.{Fault}
 use Rattle.words.specs.declared.fault.Fault.TheVariants.{Unreadable, Unwritable}
 
@@ -16,7 +18,17 @@ bits w high low = w / 2 ^ low % 2 ^ (high + 1 - low)
 abbrev pub lowest : ℕ → ℕ → ℕ
 lowest w n = w % 2 ^ n
 
--- the kind: what is above the lowest 28 bits
+-- the code of a kind
+abbrev pub code_of : Kind → ℕ
+code_of kinds.Open = 1
+code_of kinds.Lay = 2
+code_of kinds.Place = 3
+code_of kinds.Lift = 4
+code_of kinds.Axial = 5
+code_of kinds.Moment = 6
+code_of kinds.Solve = 7
+
+-- the code of a word's kind: what is above the lowest 28 bits
 abbrev pub kind : ℕ → ℕ
 kind w = w / 2 ^ 28
 
@@ -26,14 +38,19 @@ signed28 n = pos (n % 2 ^ 27) -ℤ pos (n / 2 ^ 27 * 2 ^ 27)
 
 -- the word w stands for the entry: its kind and its fields say so, and no bit beside them is set
 abbrev pub Stands : Entry → ℕ → Type 0
-Stands (Open fc fy) w = (kind w ≡ 1) × (fc ≡ pos (100 * bits w 27 14)) × (fy ≡ pos (100 * lowest w 14))
-Stands (Lay thickness width) w = (kind w ≡ 2) × (thickness ≡ pos (bits w 27 14)) × (width ≡ pos (lowest w 14))
+Stands (Open fc fy) w = (kind w ≡ code_of kinds.Open) × (fc ≡ pos (100 * bits w 27 14)) × (fy ≡ pos (100 * lowest w 14))
+Stands (Lay thickness width) w = (kind w ≡ code_of kinds.Lay) × (thickness ≡ pos (bits w 27 14)) × (width ≡ pos (lowest w 14))
 Stands (Place bar count depth) w =
-    (kind w ≡ 3) × (bits w 27 24 ≡ 0) × Numbered bar (bits w 23 20) × (count ≡ pos (bits w 19 14)) × (depth ≡ pos (lowest w 14))
-Stands (Lift row) w = (kind w ≡ 4) × (row ≡ pos (lowest w 28))
-Stands (Axial pu) w = (kind w ≡ 5) × (pu ≡ signed28 (lowest w 28))
-Stands (Moment member mu) w = (kind w ≡ 6) × (member ≡ pos (bits w 27 26)) × (mu ≡ pos (lowest w 26))
-Stands Solve w = (kind w ≡ 7) × (lowest w 28 ≡ 0)
+    (kind w ≡ code_of kinds.Place) × (bits w 27 24 ≡ 0) × Numbered bar (bits w 23 20) × (count ≡ pos (bits w 19 14)) × (depth ≡ pos (lowest w 14))
+Stands (Lift row) w = (kind w ≡ code_of kinds.Lift) × (row ≡ pos (lowest w 28))
+Stands (Axial pu) w = (kind w ≡ code_of kinds.Axial) × (pu ≡ signed28 (lowest w 28))
+Stands (Moment member mu) w = (kind w ≡ code_of kinds.Moment) × (member ≡ pos (bits w 27 26)) × (mu ≡ pos (lowest w 26))
+Stands Solve w = (kind w ≡ code_of kinds.Solve) × (lowest w 28 ≡ 0)
+
+-- the kind with a code, or that there is none
+abbrev pub Coded : ℕ → Result Kind Fault → Type 0
+Coded code (Ok k) = code ≡ code_of k
+Coded code (Err f) = ((k : Kind) → code ≢ code_of k) × (f ≡ Unreadable)
 
 -- the reader's answer at a word: an entry that it stands for, or that there is none
 abbrev pub Read : ℕ → Result Entry Fault → Type 0

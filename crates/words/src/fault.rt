@@ -1,26 +1,36 @@
 // Why a word, an entry or a stream is refused.
-ghost use Rattle.std.specs.Prelude.{◌≡◌};
-ghost use Rattle.words.specs.Faults.{refusal};
+ghost use Rattle.std.specs.Prelude.{◌≡◌, Some};
+ghost use Rattle.words.specs.Faults.{refusal, refused};
 
+use std::fmt;
+
+/// Why a word, an entry or a stream is refused.
 #[derive(Clone, Copy, PartialEq, Eq, Debug)]
 pub enum Fault {
-    // a word that stands for no entry
+    /// a word that stands for no entry
     Unreadable,
-    // an entry that fits no word
+    /// an entry that fits no word
     Unwritable,
-    // one to three bytes after the last whole word
+    /// one to three bytes after the last whole word
     Unfinished,
 }
 
-impl Fault {
-    // The number by which the refusal is told.
-    pub fn number(&self) -> u32
-        ensures { result ≡ refusal self.now }
-    {
-        match *self {
-            Fault::Unreadable => 13,
-            Fault::Unwritable => 13,
+/// The number by which the refusal is told.
+impl From<Fault> for u32 {
+    ghost from_gives = { λ fault number. number ≡ refusal fault };
+
+    fn from(fault: Fault) -> u32 {
+        match fault {
+            Fault::Unreadable | Fault::Unwritable => 13,
             Fault::Unfinished => 15,
         }
+    }
+}
+
+impl fmt::Display for Fault {
+    ghost output = { λ fault. Some (refused fault) };
+
+    fn fmt<W: fmt::Write>(&self, f: &mut fmt::Formatter<W>) -> fmt::Result {
+        write!(f, "refused {}", u32::from(*self))
     }
 }

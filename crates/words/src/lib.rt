@@ -5,6 +5,6 @@ pub mod entry;
 pub mod fault;
 pub mod kind;
 pub mod limits;
-pub mod shown;
+mod shown;
 pub mod stream;
-pub mod word;
+mod word;

@@ -1,8 +1,10 @@
 // A word and the entry that it stands for.
-ghost use Rattle.words.specs.Words.{Read, Written, Field, Hundreds, Position, OneEntry, OneWord};
+ghost use Rattle.std.specs.Prelude.{◌≡◌, ◌+◌, ◌*◌, ◌^◌, ◌<◌};
+ghost use Rattle.words.specs.Words.{Read, Written, Field, Hundreds, Position, OneEntry, OneWord, code_of};
 
 use crate::entry::Entry;
 use crate::fault::Fault;
+use crate::kind::Kind;
 use crate::limits::{
     COUNT_LIMIT, FIELD_LIMIT, MEMBER_LIMIT, MU_LIMIT, PU_LIMIT, ROW_LIMIT, STRENGTH_STEP,
 };
@@ -11,146 +13,153 @@ use section::bars::{bar_at, position_of};
 // The kind is a word's top four bits.
 const KIND: u32 = 1 << 28;
 
-const OPEN: u32 = 1;
+/// The entry that a word stands for.
+impl TryFrom<u32> for Entry {
+    type Error = Fault;
 
-const LAY: u32 = 2;
+    ghost try_from_gives = { λ word r. Read word r × OneEntry word r };
 
-const PLACE: u32 = 3;
-
-const LIFT: u32 = 4;
-
-const AXIAL: u32 = 5;
-
-const MOMENT: u32 = 6;
-
-const SOLVE: u32 = 7;
-
-// The entry that a word stands for.
-pub fn read(word: u32) -> Result<Entry, Fault>
-    ensures stands { Read word result }
-    ensures one { OneEntry word result }
-{
-    entry_of(word)
+    #[tactic(auto, using(crate::proofs::Unique::one_entry_read))]
+    fn try_from(word: u32) -> Result<Self, Fault> {
+        entry_of(word)
+    }
 }
 
-// The word that stands for an entry.
-pub fn write(entry: &Entry) -> Result<u32, Fault>
-    ensures stands { Written entry.now result }
-    ensures one { OneWord entry.now result }
-{
-    word_of(entry)
+/// The word that stands for an entry.
+impl TryFrom<Entry> for u32 {
+    type Error = Fault;
+
+    ghost try_from_gives = { λ entry r. Written entry r × OneWord entry r };
+
+    #[tactic(auto, using(crate::proofs::Unique::one_word_written))]
+    fn try_from(entry: Entry) -> Result<Self, Fault> {
+        word_of(entry)
+    }
 }
 
+#[tactic(auto, using(crate::proofs::Unique::kind_stands))]
 fn entry_of(word: u32) -> Result<Entry, Fault>
     ensures { Read word result }
 {
     let upper = word / FIELD_LIMIT % FIELD_LIMIT;
     let lower = word % FIELD_LIMIT;
     let whole = word % KIND;
-    match word / KIND {
-        OPEN => Ok(Entry::Open {
-            fc: (STRENGTH_STEP * upper) as i64,
-            fy: (STRENGTH_STEP * lower) as i64,
+    match Kind::try_from(word / KIND)? {
+        Kind::Open => Ok(Entry::Open {
+            fc: i64::from(STRENGTH_STEP * upper),
+            fy: i64::from(STRENGTH_STEP * lower),
         }),
-        LAY => Ok(Entry::Lay {
-            thickness: upper as i64,
-            width: lower as i64,
+        Kind::Lay => Ok(Entry::Lay {
+            thickness: i64::from(upper),
+            width: i64::from(lower),
         }),
-        PLACE => {
+        Kind::Place => {
             // a stray bit above the position makes it one that no bar has
-            let Some(bar) = bar_at((upper / COUNT_LIMIT) as usize) else {
-                return Err(Fault::Unreadable);
-            };
+            let bar = bar_at((upper / COUNT_LIMIT) as usize).ok_or(Fault::Unreadable)?;
             Ok(Entry::Place {
-                bar: bar.number as i64,
-                count: (upper % COUNT_LIMIT) as i64,
-                depth: lower as i64,
+                bar: i64::from(bar.number),
+                count: i64::from(upper % COUNT_LIMIT),
+                depth: i64::from(lower),
             })
         }
-        LIFT => Ok(Entry::Lift { row: whole as i64 }),
-        AXIAL => {
-            let pu = whole as i64;
+        Kind::Lift => Ok(Entry::Lift {
+            row: i64::from(whole),
+        }),
+        Kind::Axial => {
+            let pu = i64::from(whole);
             Ok(Entry::Axial {
                 pu: if pu < PU_LIMIT { pu } else { pu - 2 * PU_LIMIT },
             })
         }
-        MOMENT => Ok(Entry::Moment {
-            member: (whole / MU_LIMIT) as i64,
-            mu: (whole % MU_LIMIT) as i64,
+        Kind::Moment => Ok(Entry::Moment {
+            member: i64::from(whole / MU_LIMIT),
+            mu: i64::from(whole % MU_LIMIT),
         }),
-        SOLVE if whole == 0 => Ok(Entry::Solve),
-        _ => Err(Fault::Unreadable),
+        Kind::Solve if whole == 0 => Ok(Entry::Solve),
+        Kind::Solve => Err(Fault::Unreadable),
     }
 }
 
-fn word_of(entry: &Entry) -> Result<u32, Fault>
-    ensures { Written entry.now result }
+fn word_of(entry: Entry) -> Result<u32, Fault>
+    ensures { Written entry result }
 {
-    match *entry {
+    match entry {
         Entry::Open { fc, fy } => {
             let upper = hundreds(fc, FIELD_LIMIT)?;
             let lower = hundreds(fy, FIELD_LIMIT)?;
-            Ok(OPEN * KIND + upper * FIELD_LIMIT + lower)
+            Ok(of_kind(Kind::Open, pair(upper, lower)))
         }
         Entry::Lay { thickness, width } => {
             let upper = field(thickness, FIELD_LIMIT)?;
             let lower = field(width, FIELD_LIMIT)?;
-            Ok(LAY * KIND + upper * FIELD_LIMIT + lower)
+            Ok(of_kind(Kind::Lay, pair(upper, lower)))
         }
         Entry::Place { bar, count, depth } => {
             let position = bar_field(bar)?;
             let count = field(count, COUNT_LIMIT)?;
             let lower = field(depth, FIELD_LIMIT)?;
-            Ok(PLACE * KIND + (position * COUNT_LIMIT + count) * FIELD_LIMIT + lower)
+            Ok(of_kind(Kind::Place, pair(position * COUNT_LIMIT + count, lower)))
         }
-        Entry::Lift { row } => Ok(LIFT * KIND + field(row, ROW_LIMIT)?),
+        Entry::Lift { row } => Ok(of_kind(Kind::Lift, field(row, ROW_LIMIT)?)),
         Entry::Axial { pu } => {
-            if pu < -PU_LIMIT || pu >= PU_LIMIT {
+            if !(-PU_LIMIT..PU_LIMIT).contains(&pu) {
                 return Err(Fault::Unwritable);
             }
             let whole = if pu < 0 { pu + 2 * PU_LIMIT } else { pu };
-            Ok(AXIAL * KIND + whole as u32)
+            Ok(of_kind(Kind::Axial, whole as u32))
         }
         Entry::Moment { member, mu } => {
             let upper = field(member, MEMBER_LIMIT)?;
             let lower = field(mu, MU_LIMIT)?;
-            Ok(MOMENT * KIND + upper * MU_LIMIT + lower)
+            Ok(of_kind(Kind::Moment, upper * MU_LIMIT + lower))
         }
-        Entry::Solve => Ok(SOLVE * KIND),
+        Entry::Solve => Ok(of_kind(Kind::Solve, 0)),
     }
+}
+
+// The word of a kind: its code, and below it the bits of the entry's numbers.
+fn of_kind(kind: Kind, numbers: u32) -> u32
+    requires { numbers < 2 ^ 28 }
+    ensures { result ≡ code_of kind * 2 ^ 28 + numbers }
+{
+    kind as u32 * KIND + numbers
+}
+
+// Two fields of one size side by side.
+fn pair(upper: u32, lower: u32) -> u32
+    requires up { upper < 2 ^ 14 }
+    requires low { lower < 2 ^ 14 }
+    ensures { result ≡ upper * 2 ^ 14 + lower }
+{
+    upper * FIELD_LIMIT + lower
 }
 
 // A number that a field takes as it is: from 0, and below the field's limit.
 fn field(value: i64, limit: u32) -> Result<u32, Fault>
     ensures { Field limit value result }
 {
-    if value < 0 || value >= limit as i64 {
-        return Err(Fault::Unwritable);
+    match u32::try_from(value) {
+        Ok(value) if value < limit => Ok(value),
+        _ => Err(Fault::Unwritable),
     }
-    Ok(value as u32)
 }
 
 // A strength, which a field takes in hundreds.
 fn hundreds(value: i64, limit: u32) -> Result<u32, Fault>
     ensures { Hundreds limit value result }
 {
-    if value < 0 {
+    let step = i64::from(STRENGTH_STEP);
+    if value % step != 0 {
         return Err(Fault::Unwritable);
     }
-    let step = STRENGTH_STEP as u64;
-    let value = value as u64;
-    if value % step != 0 || value / step >= limit as u64 {
-        return Err(Fault::Unwritable);
-    }
-    Ok((value / step) as u32)
+    field(value / step, limit)
 }
 
 // The field of a bar: its position in the table.
 fn bar_field(bar: i64) -> Result<u32, Fault>
     ensures { Position bar result }
 {
-    match position_of(bar) {
-        Some(position) => Ok(position as u32),
-        None => Err(Fault::Unwritable),
-    }
+    position_of(bar)
+        .map(|position| position as u32)
+        .ok_or(Fault::Unwritable)
 }

@@ -4,4 +4,4 @@ use Rattle.listing.specs.Listing.Line.{stands}
 use Rattle.listing.proofs.line.Goals as goal
 
 pub returns-in-Ok : goal.returns-in-Ok
-returns-in-Ok c = IfOk-weaker _ _ _ (λ s e. stands c.in-Ok.entry c.in-Ok.ensures.stands e) c.format.ensures.ok
+returns-in-Ok c = IfOk-weaker _ _ _ (λ s e. stands c.in-Ok.entry c.in-Ok.ensures.0 e) c.format.ensures.ok

@@ -1,7 +1,7 @@
--- Whatever lists the words that are still to come, it completes the text.
-use Rattle.std.proofs.Common.{string_bytes}
-use Rattle.listing.proofs.Growth.{Ahead}
+-- The text lists the words so far.
+use Rattle.std.proofs.Common.{take, string_bytes}
+use Rattle.listing.specs.Listing.{Lines}
 use Rattle.listing.proofs.lines.Given as goal
 
 abbrev pub invariant-loop-index : goal.invariant-loop-index
-invariant-loop-index l = Ahead l.index l.words (string_bytes l.text)
+invariant-loop-index l = Lines 0 (take l.index l.words) (string_bytes l.text)

@@ -1,10 +1,7 @@
--- The stream is the bytes of the words so far, and then what is left.
-use Rattle.std.proofs.Common.{◌≡◌, ◌++◌, length, vec_items}
-use Rattle.words.specs.Streams.{spread}
+-- The words so far are those of the chunks so far.
+use Rattle.std.proofs.Common.{◌≡◌, map, take, w32, vec_items}
+use Rattle.std.specs.Int.{from_be_bytes}
 use Rattle.words.proofs.stream.cut.Given as goal
 
-abbrev pub invariant-loop-rest : goal.invariant-loop-rest
-invariant-loop-rest l = l.bytes ≡ spread (vec_items l.words) ++ l.rest
-
-abbrev pub decreases-loop-rest : goal.decreases-loop-rest
-decreases-loop-rest l = length l.rest
+abbrev pub invariant-loop-chunk : goal.invariant-loop-chunk
+invariant-loop-chunk l = vec_items l.words ≡ map (from_be_bytes w32) (take l.chunk-index l.chunks)
