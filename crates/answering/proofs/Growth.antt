@@ -1,5 +1,5 @@
 -- A text of replies grows line by line, and at the last line replies to them all.
-use Rattle.std.proofs.Common.{◌≡◌, ℕ, ◌<◌, List, [], ◌∷◌, ◌++◌, length, refl, subst, arith}
+use Rattle.std.proofs.Common.{◌≡◌, ℕ, ◌<◌, List, [], ◌∷◌, ◌++◌, length, refl, arith}
 use Rattle.std.proofs.lemmas.List.{append_assoc, append-nil}
 use Rattle.text.specs.declared.runs.Separator.TheVariants.{LineFeed}
 use Rattle.text.specs.Runs.{FirstRun, runs}
@@ -17,5 +17,5 @@ ahead_more text rest line more replies longer first piece l f r p e h t m =
 
 pub ahead_all : (text rest replies : List ℕ) → length rest ≡ 0 → Ahead text rest replies → RepliedAll text replies
 unfolding Lines runs
-ahead_all text [] replies z h = subst (λ t. RepliedAll text t) (append-nil replies) (h [] refl)
+ahead_all text [] replies z h = rw append-nil at (h [] refl)
 ahead_all text (b ∷ bs) replies z h = absurd (omega arith)
