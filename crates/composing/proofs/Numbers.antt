@@ -11,9 +11,6 @@ pub record ReadSoFar (n : ℕ) (labels ps rest : List (List ℕ)) (zs : List ℤ
   pub made : (ns : List Labelled) → Numbers ns rest → Numbers (labelled_all (take i labels) (take i zs) ++ ns) ps
   pub only : (ys : List ℤ) → length ys ≡ n → Numbers (labelled_all labels ys) ps → Numbers (labelled_all (drop i labels) (drop i ys)) rest
 
-pub read_none : (n : ℕ) (labels ps : List (List ℕ)) (zs : List ℤ) → length zs ≡ n → ReadSoFar n labels ps ps zs 0
-read_none n labels ps zs e = record { sized = e; made = λ ns h. h; only = λ ys l h. h }
-
 -- what comes at the place i
 labelled_rest : (labels : List (List ℕ)) (ys : List ℤ) (i : ℕ) → i < length labels → i < length ys → labelled_all (drop i labels) (drop i ys) ≡ labelled (get_or labels i []) (get_or ys i (pos 0)) ∷ labelled_all (drop (suc i) labels) (drop (suc i) ys)
 labelled_rest [] ys i l m = absurd (omega arith)
