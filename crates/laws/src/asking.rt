@@ -14,12 +14,5 @@ pub fn ask<M: Material>(law: &M, n: i64, m: i64) -> Result<Bounds, Fault>
     ensures rising { IfOk result (λ a. Rising (M.Material.stress law.now) n m a) }
     ensures alike { IfOk result (λ a. Alike (M.Material.stress law.now) n m a) }
 {
-    answer_of(law, n, m)
-}
-
-// The answer alone.
-fn answer_of<M: Material>(law: &M, n: i64, m: i64) -> Result<Bounds, Fault>
-    ensures { Answers (M.Material.stress law.now) n m result }
-{
     law.answer(n, m)
 }
