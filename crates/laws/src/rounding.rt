@@ -11,6 +11,7 @@ use exact::division::{ceiling, floor};
 use exact::positive::Positive;
 
 // A whole number of psi, in steps.
+#[tactic(auto, unfolding(crate::specs::Meaning::steps))]
 pub(crate) fn in_steps(psi: u32) -> i64
     ensures { result ≡ pos (steps * psi) }
 {
