@@ -1,5 +1,5 @@
 -- The ratio that was made is the one that was asked about.
-use Rattle.std.proofs.Common.{◌≡◌, sym, w64, SFits}
+use Rattle.std.proofs.Common.{sym, w64, SFits}
 use Rattle.std.proofs.lemmas.Int.{to_z-of_z}
 use Rattle.laws.proofs.material.Material.answer.Goals as goal
 
