@@ -26,7 +26,7 @@ impl Ratio {
     pub fn new(n: i64, m: i64) -> Result<Ratio, Fault>
         ensures { MatchResult result (λ q. Answerable n m × (q.n ≡ n) × (q.m ≡ m)) (λ e. (Answerable n m → ⊥) × (refusal e ≡ 3)) }
     {
-        if m < 1 || GREATEST_AXIS < m || n < -GREATEST_DEPTH || m < n {
+        if !(1..=GREATEST_AXIS).contains(&m) || !(-GREATEST_DEPTH..=m).contains(&n) {
             return Err(Fault::Ratio);
         }
         Ok(Ratio { n, m })
