@@ -11,11 +11,12 @@ use std::alloc::{AllocError, Global};
 use text::runs::{Separator, first_run};
 use words::stream::put;
 
-// Why no stream was made of a text: memory was wanting for a word, or a line asks for none and is not skipped.
+/// Why no stream was made of a text.
 #[derive(Clone, Copy, Debug)]
 pub enum Failure {
+    /// Memory was wanting for a word.
     Memory,
-    // the first such line, counted from 1, and what was expected of it
+    /// A line asks for no word and is not skipped: the first such line, counted from 1, and what was expected of it.
     Line { number: usize, expected: Expected },
 }
 
@@ -27,7 +28,7 @@ impl From<AllocError> for Failure {
     }
 }
 
-// The bytes of the words that the lines of a text ask for, in order. The listing of a readable stream gives it back.
+/// The bytes of the words that the lines of a text ask for, in order. The listing of a readable stream gives it back.
 pub fn compose(heap: Global, text: &[u8]) -> Result<Vec<u8>, Failure>
     ensures composed { MatchResult result (λ v. Composed text.now v.items) (λ f. Refused text.now f) }
     ensures gives_back { (stream : List ℕ) → Readable stream → Listed stream text.now → MatchResult result (λ v. v.items ≡ stream) (λ f. f ≡ Memory) }

@@ -29,14 +29,8 @@ impl fmt::Display for Expected {
     fn fmt<W: fmt::Write>(&self, f: &mut fmt::Formatter<W>) -> fmt::Result {
         match *self {
             Expected::Name => write!(f, "open, lay, place, lift, axial, moment or solve"),
-            Expected::Numbers(kind) => {
-                let form = Form(kind);
-                write!(f, "{form}")
-            }
-            Expected::Fit(kind) => {
-                let ranges = Ranges(kind);
-                write!(f, "{ranges}")
-            }
+            Expected::Numbers(kind) => write!(f, "{}", Form(kind)),
+            Expected::Fit(kind) => write!(f, "{}", Ranges(kind)),
         }
     }
 }
@@ -112,8 +106,7 @@ impl fmt::Display for BarNumbers {
 
     fn fmt<W: fmt::Write>(&self, f: &mut fmt::Formatter<W>) -> fmt::Result {
         for bar in table() {
-            let number = bar.number;
-            write!(f, " {number}")?;
+            write!(f, " {}", bar.number)?;
         }
         Ok(())
     }

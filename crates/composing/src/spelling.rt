@@ -1,12 +1,12 @@
 // The entry that the pieces of a line spell: the name of its kind, then each number after its label.
-ghost use Rattle.std.specs.Prelude.{◌≡◌, ℕ, List, [], ◌∷◌, ℤ, Decides, MatchOption, ◌≢◌};
-ghost use Rattle.words.specs.Kinds.{kind_of, name_of};
-ghost use Rattle.words.specs.Lines.{labelled, numbers_of};
-ghost use Rattle.words.specs.declared.kind.Kind.{Kind};
+ghost use Rattle.std.specs.Prelude.{◌≡◌, ℕ, List, ℤ, length, map, MatchOption, ◌≢◌};
 ghost use Rattle.text.specs.Runs.{pieces};
-ghost use Rattle.composing.specs.Spelling.{NoNumbers, NumberFirst, Numbers};
+ghost use Rattle.words.specs.Kinds.{kind_of, name_of};
+ghost use Rattle.words.specs.Lines.{numbers_of};
+ghost use Rattle.words.specs.declared.kind.Kind.{Kind};
+ghost use Rattle.composing.specs.Spelling.{NoNumbers, NumberFirst, Numbers, labelled_all};
 
-use text::figures::number;
+use text::figures::first_number;
 use text::runs::first_piece;
 use words::entry::Entry;
 use words::kind::Kind;
@@ -33,62 +33,52 @@ pub(crate) fn entry_of_kind(kind: Kind, line: &[u8]) -> Option<Entry>
 {
     match kind {
         Kind::Open => {
-            let (fc, fy) = two(line, b"fc", b"fy")?;
+            let [fc, fy] = numbers::<2>(line, &["fc", "fy"])?;
             Some(Entry::Open { fc, fy })
         }
         Kind::Lay => {
-            let (thickness, width) = two(line, b"thickness", b"width")?;
+            let [thickness, width] = numbers::<2>(line, &["thickness", "width"])?;
             Some(Entry::Lay { thickness, width })
         }
         Kind::Place => {
-            let (bar, count, depth) = three(line, b"bar", b"count", b"depth")?;
+            let [bar, count, depth] = numbers::<3>(line, &["bar", "count", "depth"])?;
             Some(Entry::Place { bar, count, depth })
         }
-        Kind::Lift => Some(Entry::Lift {
-            row: one(line, b"row")?,
-        }),
-        Kind::Axial => Some(Entry::Axial {
-            pu: one(line, b"pu")?,
-        }),
+        Kind::Lift => {
+            let [row] = numbers::<1>(line, &["row"])?;
+            Some(Entry::Lift { row })
+        }
+        Kind::Axial => {
+            let [pu] = numbers::<1>(line, &["pu"])?;
+            Some(Entry::Axial { pu })
+        }
         Kind::Moment => {
-            let (member, mu) = two(line, b"member", b"mu")?;
+            let [member, mu] = numbers::<2>(line, &["member", "mu"])?;
             Some(Entry::Moment { member, mu })
         }
         Kind::Solve => {
-            if first_piece(line).is_some() {
-                return None;
-            }
+            let [] = numbers::<0>(line, &[])?;
             Some(Entry::Solve)
         }
     }
 }
 
-// The only number of a line.
-fn one(line: &[u8], a: &[u8]) -> Option<i64>
-    ensures { MatchOption result ((x : ℤ) → Numbers (labelled a.now x ∷ []) (pieces line.now) → ⊥) (λ x. Numbers (labelled a.now x ∷ []) (pieces line.now)) }
+// The numbers of a line that has each after its label, and nothing else.
+fn numbers<const N: usize>(line: &[u8], labels: &[&str]) -> Option<[i64; N]>
+    requires { length labels.now ≡ N }
+    ensures { MatchOption result ((zs : List ℤ) → length zs ≡ N → Numbers (labelled_all (map (λ l. l.now) labels.now) zs) (pieces line.now) → ⊥) (λ zs. Numbers (labelled_all (map (λ l. l.now) labels.now) zs) (pieces line.now)) }
 {
-    let (x, rest) = number_first(line, a)?;
+    let mut numbers = [0; N];
+    let mut rest = line;
+    for (i, label) in labels.iter().enumerate() {
+        let (number, more) = number_first(rest, label.as_bytes())?;
+        numbers[i] = number;
+        rest = more;
+    }
     if first_piece(rest).is_some() {
         return None;
     }
-    Some(x)
-}
-
-// The two numbers of a line.
-fn two(line: &[u8], a: &[u8], b: &[u8]) -> Option<(i64, i64)>
-    ensures { MatchOption result ((x y : ℤ) → Numbers (labelled a.now x ∷ labelled b.now y ∷ []) (pieces line.now) → ⊥) (λ p. Numbers (labelled a.now p.0 ∷ labelled b.now p.1 ∷ []) (pieces line.now)) }
-{
-    let (x, rest) = number_first(line, a)?;
-    Some((x, one(rest, b)?))
-}
-
-// The three numbers of a line.
-fn three(line: &[u8], a: &[u8], b: &[u8], c: &[u8]) -> Option<(i64, i64, i64)>
-    ensures { MatchOption result ((x y z : ℤ) → Numbers (labelled a.now x ∷ labelled b.now y ∷ labelled c.now z ∷ []) (pieces line.now) → ⊥) (λ p. Numbers (labelled a.now p.0 ∷ labelled b.now p.1 ∷ labelled c.now p.2 ∷ []) (pieces line.now)) }
-{
-    let (x, rest) = number_first(line, a)?;
-    let (y, z) = two(rest, b, c)?;
-    Some((x, y, z))
+    Some(numbers)
 }
 
 // The number with which a line begins, after its label, and the line after it.
@@ -96,15 +86,8 @@ fn number_first<'a>(line: &'a [u8], label: &[u8]) -> Option<(i64, &'a [u8])>
     ensures { MatchOption result ((z : ℤ) (rest : List (List ℕ)) → NumberFirst label.now (pieces line.now) z rest → ⊥) (λ p. NumberFirst label.now (pieces line.now) p.0 (pieces p.1.now)) }
 {
     let (first, rest) = first_piece(line)?;
-    if !same(first, label) {
+    if first != label {
         return None;
     }
-    let (piece, rest) = first_piece(rest)?;
-    Some((number(piece)?, rest))
-}
-
-fn same(a: &[u8], b: &[u8]) -> bool
-    ensures { Decides result (a.now ≡ b.now) }
-{
-    a == b
+    first_number(rest)
 }

@@ -3,10 +3,7 @@ use Rattle.std.proofs.Common.{◌^◌, ◌<◌, length, vec_items, rules}
 use Rattle.composing.proofs.Returned.{given_back}
 use Rattle.composing.proofs.compose.compose.Goals as goal
 
-pub returns : goal.returns
-returns c =
-    let l : length c.args.text.now < 2 ^ 64 = search rules in
-    record {
-      composed = c.compose_lines.ensures;
-      gives_back = λ stream readable listed. given_back vec_items _ stream c.compose_lines.result l c.compose_lines.ensures readable listed;
-    }
+pub returns-clause-gives_back : goal.returns-clause-gives_back
+returns-clause-gives_back c = λ stream readable listed.
+    let fits : length c.args.text.now < 2 ^ 64 = search rules in
+    given_back vec_items _ stream c.compose_lines.result fits c.compose_lines.ensures readable listed
