@@ -52,7 +52,6 @@ pub struct LawFigures {
 }
 
 /// The figures, each a theorem: about the definitions of the laws, and about what their calls return.
-#[tactic(auto, using(crate::proofs::Proved::worked))]
 pub fn law_figures() -> Result<LawFigures, Fault>
     ensures worked { Worked }
     ensures returned { result ≡ Ok (record { beta_4000 = 850; beta_4100 = 845; beta_8000 = 650; beta_10000 = 650; block_at_edge = bounds (pos 3400) (pos 3400); block_below_edge = bounds (pos 0) (pos 0); trapezoid_seventh = bounds (pos 971) (pos 972); trapezoid_half = bounds (pos 3400) (pos 3400); yield_seventh = bounds (pos 12428) (pos 12429); yield_in_tension = bounds (negsuc 12428) (negsuc 12427); mill_one = bounds (pos 61438) (pos 61439) }) }

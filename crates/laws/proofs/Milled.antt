@@ -52,18 +52,21 @@ module _ (ps : List Point) {r : Bounds} where
   unfolding mill_stress minus
   in_tension n d w = by_fraction_le (λ (v : Fraction). Rounded (in_steps v) (turned r)) (whole (pos 0)) (part (negsuc n) d) (λ x. absurd (tensed n d x)) (λ x. rounded_same (steps_minus (curve ps (part (pos (suc n)) d))) (minus_rounded w))
 
-at_magnitudes : (ps : List Point) (x y : ℕ) {u v : ℕ} {r : Bounds} → Rounded (in_steps (curve ps (over (pos x) (pos y)))) r → x ≡ u → y ≡ v → Rounded (in_steps (curve ps (over (pos u) (pos v)))) r
-at_magnitudes ps x y {u} {v} {r} w e f = subst (λ (s : ℕ). Rounded (in_steps (curve ps (over (pos s) (pos v)))) r) e (subst (λ (s : ℕ). Rounded (in_steps (curve ps (over (pos x) (pos s)))) r) f w)
+-- the points and the magnitudes as the walk was given them
+walked : {ps qs : List Point} {x y u v : ℕ} {r : Bounds} → qs ≡ ps → x ≡ u → y ≡ v → Rounded (in_steps (curve qs (over (pos x) (pos y)))) r → Rounded (in_steps (curve ps (over (pos u) (pos v)))) r
+walked {ps} {qs} {x} {y} {u} {v} {r} d e f w = subst (λ (z : Fraction). Rounded (in_steps z) r) (same (λ (ps : List Point) (x y : ℕ). curve ps (over (pos x) (pos y)))) w where
+  same : (F : List Point → ℕ → ℕ → Fraction) → F qs x y ≡ F ps u v
+  same F = cc
 
 -- n and m by their magnitudes x and y: as it is where n is not negative, and elsewhere with its sign turned
-pub mill_compressed : (ps : List Point) (n m : ℤ) (x y : ℕ) {r : Bounds} → pos 1 ≤ℤ m → pos 0 ≤ℤ n → x ≡ unsigned_abs n → y ≡ unsigned_abs m → Rounded (in_steps (curve ps (over (pos x) (pos y)))) r → Rounded (in_steps (mill_stress ps (over n m))) r
-mill_compressed ps n (pos zero) x y h g e f w = absurd h.le
-mill_compressed ps n (negsuc d) x y h g e f w = absurd h.le
-mill_compressed ps (negsuc n) (pos (suc d)) x y h g e f w = absurd g.le
-mill_compressed ps (pos n) (pos (suc d)) x y h g e f w = in_compression ps n d (at_magnitudes ps x y w e f)
+pub mill_compressed : (ps : List Point) (n m : ℤ) {qs : List Point} {x y : ℕ} {r : Bounds} → pos 1 ≤ℤ m → pos 0 ≤ℤ n → qs ≡ ps → x ≡ unsigned_abs n → y ≡ unsigned_abs m → Rounded (in_steps (curve qs (over (pos x) (pos y)))) r → Rounded (in_steps (mill_stress ps (over n m))) r
+mill_compressed ps n (pos zero) h g d e f w = absurd h.le
+mill_compressed ps n (negsuc k) h g d e f w = absurd h.le
+mill_compressed ps (negsuc n) (pos (suc k)) h g d e f w = absurd g.le
+mill_compressed ps (pos n) (pos (suc k)) h g d e f w = in_compression ps n k (walked d e f w)
 
-pub mill_tensed : (ps : List Point) (n m : ℤ) (x y : ℕ) {r : Bounds} → pos 1 ≤ℤ m → n <ℤ pos 0 → x ≡ unsigned_abs n → y ≡ unsigned_abs m → Rounded (in_steps (curve ps (over (pos x) (pos y)))) r → Rounded (in_steps (mill_stress ps (over n m))) (turned r)
-mill_tensed ps n (pos zero) x y h g e f w = absurd h.le
-mill_tensed ps n (negsuc d) x y h g e f w = absurd h.le
-mill_tensed ps (pos n) (pos (suc d)) x y h g e f w = absurd (omega (arith, ints))
-mill_tensed ps (negsuc n) (pos (suc d)) x y h g e f w = in_tension ps n d (at_magnitudes ps x y w e f)
+pub mill_tensed : (ps : List Point) (n m : ℤ) {qs : List Point} {x y : ℕ} {r : Bounds} → pos 1 ≤ℤ m → n <ℤ pos 0 → qs ≡ ps → x ≡ unsigned_abs n → y ≡ unsigned_abs m → Rounded (in_steps (curve qs (over (pos x) (pos y)))) r → Rounded (in_steps (mill_stress ps (over n m))) (turned r)
+mill_tensed ps n (pos zero) h g d e f w = absurd h.le
+mill_tensed ps n (negsuc k) h g d e f w = absurd h.le
+mill_tensed ps (pos n) (pos (suc k)) h g d e f w = absurd (omega (arith, ints))
+mill_tensed ps (negsuc n) (pos (suc k)) h g d e f w = in_tension ps n k (walked d e f w)

@@ -49,6 +49,6 @@ module _ (a b : Point) (l : Leads a b) where
       parts t zero real = absurd (omega arith)
       parts t (suc u) real = (same_≤ refl refl, same_≤ refl refl)
 
-  -- t / u, worked out as one quotient, is rounded as the line is
-  pub rounded_line : (n m : ℕ) → 1 ≤ m → a.ratio * m ≤ n * 1000 → {t u : ℕ} {r : Bounds} → Rounded (in_steps (over (pos t) (pos u))) r → t ≡ a.stress * ((b.ratio - a.ratio) * m) + (n * 1000 - a.ratio * m) * (b.stress - a.stress) → u ≡ (b.ratio - a.ratio) * m → Rounded (in_steps (line a b (over (pos n) (pos m)))) r
-  rounded_line n m h p {t} {u} {r} w e f = rounded_alike (line_over n m h p) (subst (λ (x : ℕ). Rounded (in_steps (over (pos x) (pos ((b.ratio - a.ratio) * m)))) r) e (subst (λ (x : ℕ). Rounded (in_steps (over (pos t) (pos x))) r) f w))
+  -- z / d, worked out as one quotient, is rounded as the line is
+  pub rounded_line : (n m : ℕ) → 1 ≤ m → a.ratio * m ≤ n * 1000 → {z d : ℤ} {r : Bounds} → Rounded (in_steps (over z d)) r → z ≡ pos (a.stress * ((b.ratio - a.ratio) * m) + (n * 1000 - a.ratio * m) * (b.stress - a.stress)) → d ≡ pos ((b.ratio - a.ratio) * m) → Rounded (in_steps (line a b (over (pos n) (pos m)))) r
+  rounded_line n m h p {z} {d} {r} w e f = rounded_alike (line_over n m h p) (subst (λ (x : ℤ). Rounded (in_steps (over x (pos ((b.ratio - a.ratio) * m)))) r) e (subst (λ (x : ℤ). Rounded (in_steps (over z x)) r) f w))

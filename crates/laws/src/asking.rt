@@ -7,19 +7,12 @@ use crate::fault::Fault;
 use crate::material::Material;
 use exact::bounds::Bounds;
 
-// The floor and the ceiling of the law's stress at n / m, in steps.
+/// The floor and the ceiling of the law's stress at n / m, in steps.
 pub fn ask<M: Material>(law: &M, n: i64, m: i64) -> Result<Bounds, Fault>
     ensures answered { Answers (M.Material.stress law.now) n m result }
     ensures between { IfOk result (λ a. Between (M.Material.lowest law.now) (M.Material.highest law.now) a) }
     ensures rising { IfOk result (λ a. Rising (M.Material.stress law.now) n m a) }
     ensures alike { IfOk result (λ a. Alike (M.Material.stress law.now) n m a) }
-{
-    answer_of(law, n, m)
-}
-
-// The answer alone.
-fn answer_of<M: Material>(law: &M, n: i64, m: i64) -> Result<Bounds, Fault>
-    ensures { Answers (M.Material.stress law.now) n m result }
 {
     law.answer(n, m)
 }

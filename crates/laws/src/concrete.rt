@@ -6,9 +6,9 @@ use crate::material::Material;
 
 pub mod law;
 
-// A law of concrete.
+/// A law of concrete.
 pub trait Concrete: Material {
-    // The lowest stress in steps: 0, since concrete takes no tension.
+    /// The lowest stress in steps: 0, since concrete takes no tension.
     fn tension_limit(&self) -> i64
         ensures least { result ≡ Self.Material.lowest self.now }
         ensures none { result ≡ pos 0 }
@@ -16,7 +16,7 @@ pub trait Concrete: Material {
         self.least()
     }
 
-    // The highest stress in steps: at most that of 10,000 psi.
+    /// The highest stress in steps: at most that of 10,000 psi.
     fn compression_limit(&self) -> i64
         ensures most { result ≡ Self.Material.highest self.now }
         ensures small { result ≤ℤ pos (steps * strongest) }

@@ -8,7 +8,7 @@ use crate::fault::Fault;
 use crate::ratio::Ratio;
 use exact::bounds::Bounds;
 
-// A law of concrete or steel.
+/// A law of concrete or steel.
 pub trait Material {
     // the exact stress in psi at each ratio
     ghost stress: { Self → Fraction → Fraction };
@@ -18,11 +18,11 @@ pub trait Material {
 
     ghost highest: { Self → ℤ };
 
-    // The floor and the ceiling of the stress at a ratio, in steps.
+    /// The floor and the ceiling of the stress at a ratio, in steps.
     fn stress_at(&self, ratio: Ratio) -> Bounds
         ensures { Rounded (in_steps (stress self.now (over ratio.n ratio.m))) result };
 
-    // The same at n / m, or the fault 3.
+    /// The same at n / m, or the fault 3.
     fn answer(&self, n: i64, m: i64) -> Result<Bounds, Fault>
         ensures { Answers (stress self.now) n m result }
     {
@@ -30,11 +30,11 @@ pub trait Material {
         Ok(self.stress_at(ratio))
     }
 
-    // The lowest stress that there may be, in steps.
+    /// The lowest stress that there may be, in steps.
     fn least(&self) -> i64
         ensures { result ≡ lowest self.now };
 
-    // The highest stress that there may be, in steps.
+    /// The highest stress that there may be, in steps.
     fn most(&self) -> i64
         ensures { result ≡ highest self.now };
 

@@ -10,7 +10,7 @@ const GREATEST_AXIS: i64 = 120_000;
 // the greatest depth of a section, in ticks
 const GREATEST_DEPTH: i64 = 12_000;
 
-// The strain over the crushing strain, n / m: at a neutral axis depth m, that of a point n above the axis.
+/// The strain over the crushing strain, n / m: at a neutral axis depth m, that of a point n above the axis.
 #[derive(Clone, Copy)]
 pub struct Ratio {
     pub n: i64,
@@ -22,11 +22,11 @@ pub struct Ratio {
 }
 
 impl Ratio {
-    // The ratio n / m, or the fault 3.
+    /// The ratio n / m, or the fault 3.
     pub fn new(n: i64, m: i64) -> Result<Ratio, Fault>
         ensures { MatchResult result (λ q. Answerable n m × (q.n ≡ n) × (q.m ≡ m)) (λ e. (Answerable n m → ⊥) × (refusal e ≡ 3)) }
     {
-        if m < 1 || GREATEST_AXIS < m || n < -GREATEST_DEPTH || m < n {
+        if !(1..=GREATEST_AXIS).contains(&m) || !(-GREATEST_DEPTH..=m).contains(&n) {
             return Err(Fault::Ratio);
         }
         Ok(Ratio { n, m })

@@ -1,5 +1,5 @@
 // Stresses in psi, rounded to steps.
-ghost use Rattle.std.specs.Prelude.{◌≡◌, ◌*◌, ◌≤◌, pos};
+ghost use Rattle.std.specs.Prelude.{◌≡◌, ◌*◌, pos};
 ghost use Rattle.exact.specs.Fractions.{over, whole as whole_of};
 ghost use Rattle.exact.specs.Ranges.{Within};
 ghost use Rattle.exact.specs.Rounding.{Rounded};
@@ -11,6 +11,7 @@ use exact::division::{ceiling, floor};
 use exact::positive::Positive;
 
 // A whole number of psi, in steps.
+#[tactic(auto, unfolding(crate::specs::Meaning::steps))]
 pub(crate) fn in_steps(psi: u32) -> i64
     ensures { result ≡ pos (steps * psi) }
 {
@@ -38,13 +39,4 @@ pub(crate) fn rounded(num: i64, den: Positive) -> Bounds
         floor: floor(stepped, den),
         ceiling: ceiling(stepped, den),
     }
-}
-
-// The same where neither number is negative.
-pub(crate) fn rounded_ratio(num: u64, den: u64) -> Bounds
-    requires some { 1 ≤ den }
-    requires small { (num ≤ countable) × (den ≤ countable) }
-    ensures { Rounded (in_steps (over (pos num) (pos den))) result }
-{
-    rounded(num as i64, Positive { value: den as i64 })
 }

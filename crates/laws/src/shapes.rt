@@ -1,6 +1,5 @@
 // The shapes of which stresses are made: a slope held between limits, and a step.
 ghost use Rattle.std.specs.Prelude.{◌≡◌, pos, ◌*ℤ◌, neg_ℤ, if◌then◌else◌};
-ghost use Rattle.std.specs.Int.{int_min, int_max};
 ghost use Rattle.exact.specs.Fractions.{whole as whole_of, over, fraction_le, ◌*F◌, held};
 ghost use Rattle.exact.specs.Ranges.{Within};
 ghost use Rattle.exact.specs.Rounding.{Rounded};
@@ -19,8 +18,8 @@ pub(crate) fn held_slope(rise: u32, tension: u32, compression: u32, ratio: Ratio
     let least = -in_steps(tension);
     let most = in_steps(compression);
     Bounds {
-        floor: hold(bounds.floor, least, most),
-        ceiling: hold(bounds.ceiling, least, most),
+        floor: bounds.floor.clamp(least, most),
+        ceiling: bounds.ceiling.clamp(least, most),
     }
 }
 
@@ -29,13 +28,6 @@ fn slope(rise: u32, ratio: Ratio) -> Bounds
     ensures { Rounded (in_steps (whole_of (pos rise) *F over ratio.n ratio.m)) result }
 {
     rounded(product(rise, ratio.n), Positive { value: ratio.m })
-}
-
-// A number held between two.
-fn hold(number: i64, least: i64, most: i64) -> i64
-    ensures { result ≡ int_min (int_max number least) most }
-{
-    number.max(least).min(most)
 }
 
 // 0 below so many thousandths, and full psi from there on.

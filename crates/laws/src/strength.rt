@@ -27,7 +27,7 @@ impl<const LEAST: u32, const MOST: u32> Grade<LEAST, MOST> {
         ensures { Made (Graded LEAST MOST) (λ s. s.psi) psi result }
     {
         match u32::try_from(psi) {
-            Ok(psi) if LEAST <= psi && psi <= MOST && psi % GRADE_STEP == 0 => Ok(Grade { psi }),
+            Ok(psi) if (LEAST..=MOST).contains(&psi) && psi % GRADE_STEP == 0 => Ok(Grade { psi }),
             _ => Err(Fault::Strength),
         }
     }

@@ -8,23 +8,23 @@ use Rattle.figures.proofs.Figured.{figure}
 use Rattle.figures.proofs.Proved.{worked}
 use Rattle.figures.proofs.law_figures.Goals as goal
 
-pub returns-in_err-block-clause-returned : goal.returns-in_err-block-clause-returned
-returns-in_err-block-clause-returned c = absurd (c.in_err-block.ensures.0 4000 refl (lit≤ tt, lit≤ tt, refl))
+pub returns-in_err-block : goal.returns-in_err-block
+returns-in_err-block c = absurd (c.in_err-block.ensures.0 4000 refl (lit≤ tt, lit≤ tt, refl))
 
-pub returns-in_err-steel-clause-returned : goal.returns-in_err-steel-clause-returned
-returns-in_err-steel-clause-returned c = absurd (c.in_err-steel.ensures.0 60000 refl (lit≤ tt, lit≤ tt, refl))
+pub returns-in_err-steel : goal.returns-in_err-steel
+returns-in_err-steel c = absurd (c.in_err-steel.ensures.0 60000 refl (lit≤ tt, lit≤ tt, refl))
 
-pub returns-in_err-new-2-clause-returned : goal.returns-in_err-new-2-clause-returned
-returns-in_err-new-2-clause-returned c = absurd (c.in_err-new-2.ensures.0 4100 refl (lit≤ tt, lit≤ tt, refl))
+pub returns-in_err-new-2 : goal.returns-in_err-new-2
+returns-in_err-new-2 c = absurd (c.in_err-new-2.ensures.0 4100 refl (lit≤ tt, lit≤ tt, refl))
 
-pub returns-in_err-new-3-clause-returned : goal.returns-in_err-new-3-clause-returned
-returns-in_err-new-3-clause-returned c = absurd (c.in_err-new-3.ensures.0 8000 refl (lit≤ tt, lit≤ tt, refl))
+pub returns-in_err-new-3 : goal.returns-in_err-new-3
+returns-in_err-new-3 c = absurd (c.in_err-new-3.ensures.0 8000 refl (lit≤ tt, lit≤ tt, refl))
 
-pub returns-in_err-new-4-clause-returned : goal.returns-in_err-new-4-clause-returned
-returns-in_err-new-4-clause-returned c = absurd (c.in_err-new-4.ensures.0 10000 refl (lit≤ tt, lit≤ tt, refl))
+pub returns-in_err-new-4 : goal.returns-in_err-new-4
+returns-in_err-new-4 c = absurd (c.in_err-new-4.ensures.0 10000 refl (lit≤ tt, lit≤ tt, refl))
 
-pub returns-clause-returned : goal.returns-clause-returned
-returns-clause-returned c =
+pub returns : goal.returns
+returns c =
     let block : c.in_ok-block.block.strength.psi ≡ 4000 = search rules in
     let trapezoid : c.in_ok-trapezoid.trapezoid.strength.psi ≡ 4000 = search rules in
     let steel : c.in_ok-steel.steel.strength.psi ≡ 60000 = search rules in
@@ -40,4 +40,4 @@ returns-clause-returned c =
     let f5 = figure yield_stress worked.yield_seventh c.answer-5.ensures steel c.in_ok-answer-5.was in
     let f6 = figure yield_stress worked.yield_in_tension c.answer-6.ensures steel c.in_ok-answer-6.was in
     let f7 = figure mill_stress worked.mill_one c.answer-7.ensures mill c.in_ok-answer-7.was in
-    rw (b1, b2, b3, b4, f1, f2, f3, f4, f5, f6, f7) refl
+    record { worked = worked; returned = rw (b1, b2, b3, b4, f1, f2, f3, f4, f5, f6, f7) refl }

@@ -7,10 +7,11 @@ ghost use Rattle.laws.specs.Meaning.{greatest_axis, in_steps};
 ghost use Rattle.laws.specs.Rules.{reading, ruled};
 
 use crate::mill::point::Point;
-use crate::rounding::{rounded_ratio, whole};
+use crate::rounding::{rounded, whole};
 use exact::bounds::Bounds;
+use exact::positive::Positive;
 
-// A ratio n / m of compression, or of tension with its sign turned.
+// A ratio n / m of compression, or of tension with its sign turned: that may be above 1, so it is no Ratio.
 #[derive(Clone, Copy)]
 pub(crate) struct Magnitude {
     pub n: u64,
@@ -56,5 +57,8 @@ fn between(a: Point, b: Point, ratio: Magnitude) -> Bounds
     let past = ratio.n * 1_000 - a.ratio as u64 * ratio.m;
     let start = a.stress as u64;
     let rise = (b.stress - a.stress) as u64;
-    rounded_ratio(start * den + past * rise, den)
+    rounded(
+        (start * den + past * rise) as i64,
+        Positive { value: den as i64 },
+    )
 }

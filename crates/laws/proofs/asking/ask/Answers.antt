@@ -10,5 +10,5 @@ returns g c =
     let law = g.met.M.Material.means c.args.law.now in
     let fn : SFits w64 c.args.n = c.ranges.n in
     let fm : SFits w64 c.args.m = c.ranges.m in
-    let w : Answers (g.M.Material.stress c.args.law.now) c.args.n c.args.m c.answer_of.result = simp to_z-of_z at c.answer_of.ensures in
-    record { answered = w; between = asked_between law c.args.n c.args.m c.answer_of.result w; rising = asked_rising law c.args.n c.args.m c.answer_of.result w; alike = asked_alike law c.args.n c.args.m c.answer_of.result w }
+    let w : Answers (g.M.Material.stress c.args.law.now) c.args.n c.args.m c.answer.result = simp to_z-of_z at c.answer.ensures in
+    record { answered = w; between = asked_between law c.args.n c.args.m c.answer.result w; rising = asked_rising law c.args.n c.args.m c.answer.result w; alike = asked_alike law c.args.n c.args.m c.answer.result w }
