@@ -4,7 +4,7 @@ ghost use Rattle.answering.specs.Replies.{Printed, RepliedAll};
 
 use crate::reply::reply_to;
 use std::alloc::{AllocError, Global};
-use text::runs::{Separator, first_run};
+use text::runs::lines;
 
 /// The replies to the lines of a text, each on a line of its own. No other bytes reply to the text.
 pub fn reply(heap: Global, text: &[u8]) -> Result<String, AllocError>
@@ -12,11 +12,8 @@ pub fn reply(heap: Global, text: &[u8]) -> Result<String, AllocError>
     ensures only { IfOk result (λ s. (bytes : List ℕ) → RepliedAll text.now bytes → bytes ≡ string_bytes s) }
 {
     let mut replies = String::new(heap);
-    let mut rest = text;
-    while !rest.is_empty() {
-        let (line, more) = first_run(rest, Separator::LineFeed);
+    for line in lines(text) {
         replies.push_str(printed(heap, line)?.as_str())?;
-        rest = more;
     }
     Ok(replies)
 }

@@ -74,3 +74,8 @@ first_piece bs run rest n e h =
     let first : get_or (drop n bs) 0 0 ≡ get_or bs n 0 = get_or-drop n bs 0 0 ∙ ap (λ k. get_or bs k 0) (add-zero n) in
     blanks_passed bs n (omega arith) (λ k l. not-false _ (at.2 k l))
     ∙ one_piece (drop n bs) run rest (rw length-drop (omega arith)) (rw first (not-true _ at.1)) h
+
+pub no_runs : (s : Separator) (bs : List ℕ) → length bs ≡ 0 → runs s bs ≡ []
+unfolding runs
+no_runs s [] z = refl
+no_runs s (b ∷ bs) z = absurd (omega arith)

@@ -1,6 +1,9 @@
 // A text cut into lines, and a line into pieces.
 ghost use Rattle.std.specs.Prelude.{◌≡◌, [], ◌∷◌, not, position, MatchOption};
+ghost use Rattle.text.specs.Lines.{text_left};
 ghost use Rattle.text.specs.Runs.{separates, FirstRun, pieces};
+
+use crate::lines::Lines;
 
 /// What ends a run of bytes.
 #[derive(Clone, Copy)]
@@ -52,4 +55,11 @@ pub fn first_piece(line: &[u8]) -> Option<(&[u8], &[u8])>
 {
     let start = Separator::Blank.first_other_in(line)?;
     Some(first_run(&line[start..], Separator::Blank))
+}
+
+/// The lines of a text, one after another.
+pub fn lines(text: &[u8]) -> Lines<'_>
+    ensures { text_left result ≡ text.now }
+{
+    Lines { rest: text }
 }
