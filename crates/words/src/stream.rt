@@ -1,5 +1,5 @@
 // A stream of bytes as words, high byte first.
-ghost use Rattle.std.specs.Prelude.{◌≡◌, ◌+◌, ◌<◌, ◌≤◌, [], ◌∷◌, ◌++◌, length, vec_len, vec_capacity, MatchResult};
+ghost use Rattle.std.specs.Prelude.{◌≡◌, ◌+◌, ◌<◌, ◌≤◌, [], ◌∷◌, ◌++◌, length, vec_len, vec_capacity, MatchResult, OnOk, OnErr};
 ghost use Rattle.words.specs.Streams.{Cut, spread};
 
 use std::alloc::{AllocError, Global};
@@ -19,7 +19,9 @@ pub fn cut(heap: Global, bytes: &[u8]) -> Result<(Vec<u32>, &[u8]), AllocError>
 
 /// Adds the bytes of a word to a stream. Where it has no room for them and memory is wanting, it stays as it was.
 pub fn put(bytes: &mut Vec<u8>, word: u32) -> Result<(), AllocError>
-    ensures { MatchResult result (λ _. bytes.new.items ≡ bytes.old.items ++ spread (word ∷ [])) (λ _. (bytes.new.items ≡ bytes.old.items) × (vec_capacity bytes.old < vec_len bytes.old + 4)) }
+    ensures added { OnOk result (bytes.new.items ≡ bytes.old.items ++ spread (word ∷ [])) }
+    ensures unchanged { OnErr result (bytes.new.items ≡ bytes.old.items) }
+    ensures no_room { OnErr result (vec_capacity bytes.old < vec_len bytes.old + 4) }
 {
     bytes.extend_from_slice(&word.to_be_bytes())
 }

@@ -1,5 +1,5 @@
 // A word and the entry that it stands for.
-ghost use Rattle.std.specs.Prelude.{◌≡◌, ◌+◌, ◌*◌, ◌^◌, ◌<◌};
+ghost use Rattle.std.specs.Prelude.{◌≡◌, ◌+◌, ◌*◌, ◌<◌};
 ghost use Rattle.words.specs.Words.{Read, Written, Field, Hundreds, Position, OneEntry, OneWord, code_of};
 
 use crate::entry::Entry;
@@ -119,17 +119,17 @@ fn word_of(entry: Entry) -> Result<u32, Fault>
 
 // The word of a kind: its code, and below it the bits of the entry's numbers.
 fn of_kind(kind: Kind, numbers: u32) -> u32
-    requires { numbers < 2 ^ 28 }
-    ensures { result ≡ code_of kind * 2 ^ 28 + numbers }
+    requires { numbers < KIND }
+    ensures { result ≡ code_of kind * KIND + numbers }
 {
     kind as u32 * KIND + numbers
 }
 
 // Two fields of one size side by side.
 fn pair(upper: u32, lower: u32) -> u32
-    requires up { upper < 2 ^ 14 }
-    requires low { lower < 2 ^ 14 }
-    ensures { result ≡ upper * 2 ^ 14 + lower }
+    requires upper_fits { upper < FIELD_LIMIT }
+    requires lower_fits { lower < FIELD_LIMIT }
+    ensures { result ≡ upper * FIELD_LIMIT + lower }
 {
     upper * FIELD_LIMIT + lower
 }

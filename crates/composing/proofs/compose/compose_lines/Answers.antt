@@ -10,7 +10,7 @@ loop-rest-init c = so_far_none _ _ c.new-bytes.ensures.items
 
 pub loop-rest-preserved-in_ok-put-in-Ok-Some : goal.loop-rest-preserved-in_ok-put-in-Ok-Some
 loop-rest-preserved-in_ok-put-in-Ok-Some c =
-    so_far_more _ _ _ _ _ _ (c.in-Ok-Some.word ∷ []) _ (search rules) c.first_run.ensures (asked_word _ _ (search rules)) c.in_ok-put-in-Ok-Some.ensures c.loop-rest.invariant
+    so_far_more _ _ _ _ _ _ (c.in-Ok-Some.word ∷ []) _ (search rules) c.first_run.ensures (asked_word _ _ (search rules)) c.in_ok-put-in-Ok-Some.ensures.added c.loop-rest.invariant
 
 pub loop-rest-preserved : goal.loop-rest-preserved
 loop-rest-preserved c =
