@@ -1,21 +1,42 @@
 -- A stream is composed line by line, and ends with the text or at the first line that lacks something.
-use Rattle.std.proofs.Common.{◌≡◌, ℕ, suc, ◌+◌, ◌<◌, ◌≤◌, List, [], ◌∷◌, ◌++◌, length, Some, None, Ok, sym, refl, ap, ◌∙◌, subst, inl, inr, add-one, arith}
-use Rattle.std.proofs.lemmas.List.{append_assoc, append-nil, length_push}
+use Rattle.std.proofs.Common.{◌≡◌, ℕ, suc, ◌+◌, ◌<◌, List, [], ◌∷◌, ◌++◌, length, get_or, take, drop, Some, None, Ok, Err, Option, Result, sym, refl, ap, ◌∙◌, subst, inl, inr, add-one, zero-add, arith, MatchResult}
+use denote.Ref.{Bor}
+use Rattle.std.specs.declared.iter.Enumerate.{Enumerate}
+use Rattle.std.specs.Iterator.{Yields, YieldsFirstRef}
+use Rattle.std.specs.Iterator.Adapters.{enumerate_count, enumerate_source, enumerate_steps}
+use Rattle.std.proofs.Math.Seq.{drop-cons}
+use Rattle.std.proofs.lemmas.Iterator.Consumers.{YieldsList-end, YieldsList-from_enumerate, YieldsList-from_first, YieldsList-turn}
+use Rattle.std.proofs.lemmas.List.FromFn.{get_or-enumerate_from, length-enumerate_from}
+use Rattle.std.proofs.lemmas.List.{take_all, take_more, take-append-drop, length-take-le}
 use Rattle.words.specs.Streams.{spread}
 use Rattle.words.proofs.Streams.{spread_append}
-use Rattle.text.specs.declared.runs.Separator.TheVariants.{LineFeed}
+use Rattle.text.specs.declared.lines.Lines.{Lines}
+use Rattle.text.specs.Lines.{lines_left, text_left}
+use Rattle.text.specs.Runs.{lines_of}
+use Rattle.composing.specs.declared.compose.Failure.{Failure}
+use Rattle.composing.specs.declared.compose.Failure.TheVariants.{Line}
+use Rattle.composing.specs.declared.expected.Expected.{Expected}
 use Rattle.composing.specs.Asking.{Answered}
-use Rattle.composing.specs.Composing.{Asked, Composed, Reached}
-use Rattle.text.specs.Runs.{FirstRun, lines_of, runs}
+use Rattle.composing.specs.Composing.{Asked, Composed, Reached, Refused}
 
--- the lines before the rest of the text ask for words whose bytes are there
-pub record SoFar (text rest : List ℕ) (n : ℕ) (bytes : List ℕ) : Type 0 where
-  pub before : List (List ℕ)
+-- a loop over the lines of a text, by their numbers: its turn is at the next line
+pub this_line : (text : List ℕ) (s t u : Enumerate Lines) (done : List (ℕ × Bor (List ℕ))) (r : Option (ℕ × Bor (List ℕ))) (i : ℕ) (line : Bor (List ℕ)) → text_left (enumerate_source s) ≡ text → enumerate_count s ≡ 0 → Yields (enumerate_steps (YieldsFirstRef lines_left)) s done t → r ≡ Some (i, line) → enumerate_steps (YieldsFirstRef lines_left) t r u → (length done < length (lines_of text)) × (i ≡ length done) × (line.now ≡ get_or (lines_of text) (length done) line.now)
+this_line text s t u done r i line e z yielded is step =
+    let turn = YieldsList-turn (YieldsList-from_enumerate (YieldsList-from_first (λ x. x.now) lines_left (lines_of text) (ap lines_of e)) z) done t yielded r u (i, line) is step in
+    let within : length done < length (lines_of text) = rw length-enumerate_from at turn.0 in
+    let here = turn.1 ∙ get_or-enumerate_from 0 (lines_of text) (length done) (i, line.now) within in
+    (within, ap (λ p. p.0) here ∙ zero-add (length done), ap (λ p. p.1) here)
+
+-- and it ends after the last
+pub every_line : (text : List ℕ) (s t u : Enumerate Lines) (done : List (ℕ × Bor (List ℕ))) (r : Option (ℕ × Bor (List ℕ))) → text_left (enumerate_source s) ≡ text → enumerate_count s ≡ 0 → Yields (enumerate_steps (YieldsFirstRef lines_left)) s done t → r ≡ None → enumerate_steps (YieldsFirstRef lines_left) t r u → length done ≡ length (lines_of text)
+every_line text s t u done r e z yielded is step =
+    let end = YieldsList-end (YieldsList-from_enumerate (YieldsList-from_first (λ x. x.now) lines_left (lines_of text) (ap lines_of e)) z) done t yielded r u is step in
+    end.1 ∙ length-enumerate_from 0 (lines_of text)
+
+-- the first n lines ask for words whose bytes are there
+pub record SoFar (lines : List (List ℕ)) (n : ℕ) (bytes : List ℕ) : Type 0 where
   pub words : List ℕ
-  pub cut : lines_of text ≡ before ++ lines_of rest
-  pub counted : n ≡ length before
-  pub few : n + length rest ≤ length text
-  pub asked : Asked before words
+  pub asked : Asked (take n lines) words
   pub written : bytes ≡ spread words
 
 asked_append : (ls ms : List (List ℕ)) (ws vs : List ℕ) → Asked ls ws → Asked ms vs → Asked (ls ++ ms) (ws ++ vs)
@@ -27,15 +48,9 @@ asked_append (l ∷ ls) ms ws vs h g =
       | inr s ↦ inr (s.0, s.1 ++ vs, ap (λ us. us ++ vs) s.2, s.3, asked_append ls ms s.1 vs s.4 g)
     ]
 
-pub so_far_none : (text bytes : List ℕ) → bytes ≡ [] → SoFar text text 0 bytes
+pub so_far_none : (lines : List (List ℕ)) (bytes : List ℕ) → bytes ≡ [] → SoFar lines 0 bytes
 unfolding Asked
-so_far_none text bytes e =
-    record { before = []; words = []; cut = refl; counted = refl; few = omega arith; asked = refl; written = e }
-
--- the lines before the rest, with the first line of the rest
-cut_more : (lines before : List (List ℕ)) (rest line more : List ℕ) → 0 < length rest → FirstRun LineFeed rest line more → lines ≡ before ++ lines_of rest → lines ≡ (before ++ line ∷ []) ++ lines_of more
-cut_more lines before rest line more l f e =
-    e ∙ ap (λ ls. before ++ ls) (f.cut l) ∙ sym (append_assoc before (line ∷ []) (lines_of more))
+so_far_none lines bytes e = record { words = []; asked = refl; written = e }
 
 -- a line that is skipped asks for no word, and any other for one
 pub asked_skipped : (line : List ℕ) → Answered line (Ok None) → Asked (line ∷ []) []
@@ -46,33 +61,30 @@ pub asked_word : (line : List ℕ) (w : ℕ) → Answered line (Ok (Some w)) →
 unfolding Asked
 asked_word line w a = inr (w, [], refl, a, refl)
 
-pub so_far_more : (text rest line more bytes longer ws : List ℕ) (n : ℕ) → 0 < length rest → FirstRun LineFeed rest line more → Asked (line ∷ []) ws → longer ≡ bytes ++ spread ws → SoFar text rest n bytes → SoFar text more (n + 1) longer
-so_far_more text rest line more bytes longer ws n l f a e h =
-    let shorter = f.shorter l in
-    let few = h.few in
+pub so_far_more : (lines : List (List ℕ)) (n : ℕ) (line bytes longer ws : List ℕ) → n < length lines → line ≡ get_or lines n line → Asked (line ∷ []) ws → longer ≡ bytes ++ spread ws → SoFar lines n bytes → SoFar lines (n + 1) longer
+so_far_more lines n line bytes longer ws l here a e h =
     record {
-      before = h.before ++ line ∷ [];
       words = h.words ++ ws;
-      cut = cut_more _ h.before rest line more l f h.cut;
-      counted = ap (λ k. k + 1) h.counted ∙ sym (length_push h.before line);
-      few = omega arith;
-      asked = asked_append h.before (line ∷ []) h.words ws h.asked a;
+      asked = rw (take_more lines n line l, ← here) (asked_append (take n lines) (line ∷ []) h.words ws h.asked a);
       written = e ∙ ap (λ bs. bs ++ spread ws) h.written ∙ sym (spread_append h.words ws);
     }
 
-pub reached : (text rest line more bytes : List ℕ) (n : ℕ) → 0 < length rest → FirstRun LineFeed rest line more → SoFar text rest n bytes → Reached text line (n + 1)
-reached text rest line more bytes n l f h =
+pub reached : (text : List ℕ) (n : ℕ) (line bytes : List ℕ) → n < length (lines_of text) → line ≡ get_or (lines_of text) n line → SoFar (lines_of text) n bytes → Reached text line (n + 1)
+reached text n line bytes l here h =
     record {
-      before = h.before;
-      after = lines_of more;
-      cut = h.cut ∙ ap (λ ls. h.before ++ ls) (f.cut l);
-      counted = add-one n ∙ ap suc h.counted;
+      before = take n (lines_of text);
+      after = drop (suc n) (lines_of text);
+      cut = sym (take-append-drop n (lines_of text)) ∙ ap (λ ls. take n (lines_of text) ++ ls) (drop-cons (lines_of text) n line l ∙ ap (λ a. a ∷ drop (suc n) (lines_of text)) (sym here));
+      counted = add-one n ∙ ap suc (sym (length-take-le n (lines_of text) (omega arith)));
       words = h.words;
       asked = h.asked;
     }
 
-pub so_far_all : (text rest bytes : List ℕ) (n : ℕ) → length rest ≡ 0 → SoFar text rest n bytes → Composed text bytes
-unfolding runs
-so_far_all text [] bytes n z h =
-    record { words = h.words; asked = subst (λ ls. Asked ls h.words) (sym (h.cut ∙ append-nil h.before)) h.asked; written = h.written }
-so_far_all text (b ∷ bs) bytes n z h = absurd (omega arith)
+-- where it lacks something, no stream is made
+pub refused : (text line : List ℕ) (n : ℕ) (asked : Result (Option ℕ) Expected) (f : Failure) → Reached text line n → Answered line asked → MatchResult asked (λ x. ⊥) (λ e. f ≡ Line n e) → Refused text f
+refused text line n (Ok x) f r a e = absurd e
+refused text line n (Err x) f r a e = rw e (line, r, a)
+
+pub so_far_all : (text bytes : List ℕ) (n : ℕ) → n ≡ length (lines_of text) → SoFar (lines_of text) n bytes → Composed text bytes
+so_far_all text bytes n e h =
+    record { words = h.words; asked = subst (λ ls. Asked ls h.words) (take_all n (lines_of text) (omega arith)) h.asked; written = h.written }

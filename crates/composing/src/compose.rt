@@ -8,7 +8,7 @@ ghost use Rattle.composing.specs.declared.compose.Failure.TheVariants.{Memory};
 use crate::expected::Expected;
 use crate::line::word_asked;
 use std::alloc::{AllocError, Global};
-use text::runs::{Separator, first_run};
+use text::runs::lines;
 use words::stream::put;
 
 /// Why no stream was made of a text.
@@ -40,17 +40,12 @@ fn compose_lines(heap: Global, text: &[u8]) -> Result<Vec<u8>, Failure>
     ensures { MatchResult result (λ v. Composed text.now v.items) (λ f. Refused text.now f) }
 {
     let mut bytes = Vec::new(heap);
-    let mut rest = text;
-    let mut number: usize = 0;
-    while !rest.is_empty() {
-        let (line, more) = first_run(rest, Separator::LineFeed);
-        number += 1;
-        match word_asked(line) {
-            Ok(Some(word)) => put(&mut bytes, word)?,
-            Ok(None) => {}
-            Err(expected) => return Err(Failure::Line { number, expected }),
+    for (i, line) in lines(text).enumerate() {
+        let number = i + 1;
+        let asked = word_asked(line).map_err(|expected| Failure::Line { number, expected })?;
+        if let Some(word) = asked {
+            put(&mut bytes, word)?;
         }
-        rest = more;
     }
     Ok(bytes)
 }
