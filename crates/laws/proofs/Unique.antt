@@ -5,20 +5,21 @@ use Rattle.laws.specs.declared.mill.point.Point.{Point}
 use Rattle.laws.specs.Meaning.{farthest, greatest_ratio}
 use Rattle.laws.specs.Rules.{reading}
 
--- points of the same numbers are the same, as no limit is kept in two ways
-same_point : {r s t u : ℕ} (near : r ≤ greatest_ratio) (weak : s ≤ farthest) (near' : t ≤ greatest_ratio) (weak' : u ≤ farthest) → r ≡ t → s ≡ u → ◌≡◌ {A = Point} (record { ratio = r; stress = s; near = near; weak = weak }) (record { ratio = t; stress = u; near = near'; weak = weak' })
-same_point {r} {s} {t} {u} near weak near' weak' e f = at t e near' u f weak' where
-  same : (near' : r ≤ greatest_ratio) (weak' : s ≤ farthest) → ◌≡◌ {A = Point} (record { ratio = r; stress = s; near = near; weak = weak }) (record { ratio = r; stress = s; near = near'; weak = weak' })
-  same near' weak' = rw (le_prop near near', le_prop weak weak') refl
+-- the point of these numbers
+abbrev of : (r s : ℕ) → r ≤ greatest_ratio → s ≤ farthest → Point
+of r s near weak = record { ratio = r; stress = s; near = near; weak = weak }
 
-  at : (t : ℕ) → r ≡ t → (near' : t ≤ greatest_ratio) (u : ℕ) → s ≡ u → (weak' : u ≤ farthest) → ◌≡◌ {A = Point} (record { ratio = r; stress = s; near = near; weak = weak }) (record { ratio = t; stress = u; near = near'; weak = weak' })
-  at t e = subst (λ (t : ℕ). (near' : t ≤ greatest_ratio) (u : ℕ) → s ≡ u → (weak' : u ≤ farthest) → ◌≡◌ {A = Point} (record { ratio = r; stress = s; near = near; weak = weak }) (record { ratio = t; stress = u; near = near'; weak = weak' })) e
-      (λ near' u f. subst (λ (u : ℕ). (weak' : u ≤ farthest) → ◌≡◌ {A = Point} (record { ratio = r; stress = s; near = near; weak = weak }) (record { ratio = r; stress = u; near = near'; weak = weak' })) f (λ weak'. same near' weak'))
+-- no limit is kept in two ways
+same : (r s : ℕ) (h h' : r ≤ greatest_ratio) (g g' : s ≤ farthest) → of r s h g ≡ of r s h' g'
+same r s h h' g g' = rw (le_prop h h', le_prop g g') refl
 
 one_point : (p q : Point) → reading p ≡ reading q → p ≡ q
-one_point p q e = same_point p.near p.weak q.near q.weak (natural (ap (λ r. r.ratio) e)) (natural (ap (λ r. r.stress) e)) where
-  natural : {a b : ℕ} → pos a ≡ pos b → a ≡ b
-  natural e = cc
+one_point p q e =
+    subst (λ (r : ℕ). (h : r ≤ greatest_ratio) → p ≡ of r q.stress h q.weak) (natural (ap (λ r. r.ratio) e))
+    (λ h. subst (λ (s : ℕ). (g : s ≤ farthest) → p ≡ of p.ratio s h g) (natural (ap (λ r. r.stress) e)) (λ g. same p.ratio p.stress p.near h p.weak g) q.weak) q.near
+  where
+    natural : {a b : ℕ} → pos a ≡ pos b → a ≡ b
+    natural e = cc
 
 pub one_curve : (ps qs : List Point) → map reading ps ≡ map reading qs → ps ≡ qs
 one_curve [] [] e = refl
