@@ -1,14 +1,16 @@
 -- A line of a listing asks for the word that it lists.
-use Rattle.std.proofs.Common.{◌≡◌, ℕ, suc, ◌+◌, ◌*◌, ◌/◌, ◌%◌, ◌^◌, ◌<◌, ◌≤◌, Bool, true, false, not, ◌&&◌, eqb, List, [], ◌∷◌, ◌++◌, length, get_or, ℤ, pos, negsuc, ◌-ℤ◌, Some, Ok, codes, decimal, sym, refl, ap, ◌∙◌, inr, arith, lit<}
+use Rattle.std.proofs.Common.{◌≡◌, ℕ, suc, ◌+◌, ◌*◌, ◌/◌, ◌%◌, ◌^◌, ◌<◌, ◌≤◌, Bool, true, false, not, eqb, List, [], ◌∷◌, ◌++◌, length, get_or, ℤ, pos, negsuc, ◌-ℤ◌, Some, Ok, codes, decimal, sym, refl, ap, ◌∙◌, inr, arith, lit<}
 use borrow.Author.Differences.{ints}
 use lib.Signed.{mag}
 use Rattle.std.specs.Str.Parse.{digits_value}
 use Rattle.std.specs.Int.{IsInRange}
 use Rattle.std.specs.Fmt.{signed_decimal}
-use Rattle.std.specs.List.{AllByRecursion}
+use Rattle.std.specs.List.{AllByRecursion, list_all}
 use Rattle.std.specs.Str.{all_ascii_digits}
 use Rattle.std.proofs.lemmas.Fmt.{decimal_is_IsNumeral, digits_decimal}
 use Rattle.std.proofs.lemmas.List.{append_assoc, append-nil, length-append}
+use Rattle.std.proofs.lemmas.List.Folds.{list_all-append}
+use Rattle.std.proofs.lemmas.List.Sums.{AllPass-from_list_all}
 use Rattle.std.proofs.lemmas.Str.Parse.{IsNumeralModel, numerals_by_value, tells_all_ascii_digits, digit_at}
 use Rattle.std.proofs.lemmas.Bool.{ne_eqb, and_parts, and_from, not-true, not_from_false}
 use Rattle.section.proofs.Distinct.{small_number}
@@ -26,19 +28,16 @@ use Rattle.text.specs.declared.runs.Separator.TheVariants.{LineFeed, Blank}
 use Rattle.composing.specs.Asking.{Answered}
 use Rattle.composing.specs.Composing.{Asked}
 use Rattle.text.specs.Figures.{Figures}
+use Rattle.text.proofs.Cuts.{cut_nowhere}
 use Rattle.text.specs.Runs.{separates, onto, runs, filled, pieces, lines_of}
 use Rattle.composing.specs.Spelling.{Numbers, Spells}
 
 -- no byte of the text is a separator
 abbrev pub free : Separator → List ℕ → Bool
-free s [] = true
-free s (b ∷ bs) = not (separates s b) && free s bs
+free s bs = list_all (λ b. not (separates s b)) bs
 
 free_append : (s : Separator) (a b : List ℕ) → free s a ≡ true → free s b ≡ true → free s (a ++ b) ≡ true
-free_append s [] b p q = q
-free_append s (x ∷ a) b p q =
-    let r = and_parts (not (separates s x)) (free s a) p in
-    and_from _ _ r.0 (free_append s a b r.1 q)
+free_append s a b p q = list_all-append (λ c. not (separates s c)) a b ∙ and_from _ _ p q
 
 -- such a text before a separator is a run
 pub run_front : (s : Separator) (a : List ℕ) (b : ℕ) (rest : List ℕ) → free s a ≡ true → separates s b ≡ true → runs s (a ++ b ∷ rest) ≡ a ∷ runs s rest
@@ -49,11 +48,7 @@ run_front s (x ∷ a) b rest p e =
     rw (not-true _ q.0) (ap (onto x) (run_front s a b rest q.1 e))
 
 run_last : (s : Separator) (x : ℕ) (a : List ℕ) → free s (x ∷ a) ≡ true → runs s (x ∷ a) ≡ (x ∷ a) ∷ []
-unfolding runs
-run_last s x [] p = let q = and_parts (not (separates s x)) true p in rw (not-true _ q.0) refl
-run_last s x (y ∷ a) p =
-    let q = and_parts (not (separates s x)) (free s (y ∷ a)) p in
-    rw (not-true _ q.0) (ap (onto x) (run_last s y a q.1))
+run_last s x a p = cut_nowhere s x a (λ k l. not-true _ (AllPass-from_list_all (λ b. not (separates s b)) (x ∷ a) p k 0 l))
 
 -- a text that can be a piece: without separators, and not empty
 pub record Piece (a : List ℕ) : Type 0 where

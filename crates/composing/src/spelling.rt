@@ -11,7 +11,7 @@ use text::runs::first_piece;
 use words::entry::Entry;
 use words::kind::Kind;
 
-// The kind of entry with a name.
+// The kind of entry with a name. An Option and no TryFrom, since an error would tell no more than that there is none.
 pub(crate) fn kind_named(name: &[u8]) -> Option<Kind>
     ensures { MatchOption result ((k : Kind) → name.now ≢ name_of k) (λ k. name.now ≡ name_of k) }
 {

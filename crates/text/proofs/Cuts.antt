@@ -14,6 +14,7 @@ use Rattle.text.specs.Runs.{FirstRun, separates, onto, runs, filled, pieces}
 none_passes : (p : ℕ → Bool) (bs : List ℕ) → position p bs ≡ None → (k : ℕ) → k < length bs → p (get_or bs k 0) ≡ false
 none_passes p bs e k l = not-true _ (prefix_len_passes (λ b. not (p b)) bs k 0 (grind (arith, nat_tests)))
 
+-- bytes with a separator end their first run there
 cut_at : (s : Separator) (bs : List ℕ) (n : ℕ) → n < length bs → ((k : ℕ) → k < n → separates s (get_or bs k 0) ≡ false) → separates s (get_or bs n 0) ≡ true → runs s bs ≡ take n bs ∷ runs s (drop (suc n) bs)
 unfolding runs
 cut_at s [] n l before at = absurd (omega arith)
@@ -21,7 +22,8 @@ cut_at s (b ∷ bs) zero l before at = cond-true _ _ _ at
 cut_at s (b ∷ bs) (suc n) l before at =
     cond-false _ _ _ (before 0 (omega arith)) ∙ ap (onto b) (cut_at s bs n (omega arith) (λ k m. before (suc k) (omega arith)) at)
 
-cut_nowhere : (s : Separator) (b : ℕ) (bs : List ℕ) → ((k : ℕ) → k < length (b ∷ bs) → separates s (get_or (b ∷ bs) k 0) ≡ false) → runs s (b ∷ bs) ≡ (b ∷ bs) ∷ []
+-- and bytes with none are one run
+pub cut_nowhere : (s : Separator) (b : ℕ) (bs : List ℕ) → ((k : ℕ) → k < length (b ∷ bs) → separates s (get_or (b ∷ bs) k 0) ≡ false) → runs s (b ∷ bs) ≡ (b ∷ bs) ∷ []
 unfolding runs
 cut_nowhere s b [] none = cond-false _ _ _ (none 0 (omega arith))
 cut_nowhere s b (c ∷ bs) none =
