@@ -17,6 +17,7 @@ pub(crate) fn answer(question: &Question) -> Result<Bounds, Fault>
     ensures { Answered (law_of question.now.law) (numbers_of question.now.law) question.now.n question.now.m result }
 {
     let (n, m) = (question.n, question.m);
+    // each law is a type of its own, so each has an arm
     match &question.law {
         Asked::Block { fc } => ask(&Block::new(*fc)?, n, m),
         Asked::Trapezoid { fc } => ask(&Trapezoid::new(*fc)?, n, m),

@@ -55,7 +55,7 @@ impl fmt::Display for Form {
     }
 }
 
-// What the numbers of a line may be.
+// What the numbers of a line may be: another text of a kind, with which the form shares its wrapper alone.
 #[derive(Clone, Copy)]
 struct Ranges(Kind);
 

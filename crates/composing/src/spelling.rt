@@ -27,7 +27,7 @@ pub(crate) fn kind_named(name: &[u8]) -> Option<Kind>
     }
 }
 
-// The entry of a kind whose numbers a line writes.
+// The entry of a kind whose numbers a line writes. Each kind has an arm, since each entry has fields of its own.
 pub(crate) fn entry_of_kind(kind: Kind, line: &[u8]) -> Option<Entry>
     ensures { MatchOption result (NoNumbers kind (pieces line.now)) (λ e. (kind_of e ≡ kind) × Numbers (numbers_of e) (pieces line.now)) }
 {
@@ -70,6 +70,7 @@ fn numbers<const N: usize>(line: &[u8], labels: &[&str]) -> Option<[i64; N]>
 {
     let mut numbers = [0; N];
     let mut rest = line;
+    // by place, since nothing is known of what is written through `iter_mut`
     for (i, label) in labels.iter().enumerate() {
         let (number, more) = number_first(rest, label.as_bytes())?;
         numbers[i] = number;

@@ -5,6 +5,7 @@ use listing::list;
 use std::io;
 use std::io::{Read, Write};
 
+// Reads, answers and writes: a program is these lines round one call of a library.
 fn main(rt: HostRuntime) -> io::Result<()> {
     let heap = rt.alloc();
     let mut bytes = Vec::new(heap);

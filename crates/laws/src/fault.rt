@@ -15,6 +15,7 @@ pub enum Fault {
     Ratio,
 }
 
+// Each crate that refuses has faults and numbers of its own; all that they share is the word `refused`.
 impl From<Fault> for u32 {
     ghost from_gives = { λ fault number. number ≡ refusal fault };
 

@@ -23,6 +23,7 @@ pub trait Material {
         ensures { Rounded (in_steps (stress self.now (over ratio.n ratio.m))) result };
 
     /// The same at n / m, or the fault 3.
+    // two plain numbers, whatever they are: the `Ratio` is what is made of them
     fn answer(&self, n: i64, m: i64) -> Result<Bounds, Fault>
         ensures { Answers (stress self.now) n m result }
     {

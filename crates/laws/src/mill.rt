@@ -44,6 +44,7 @@ impl Mill {
             return Err(Fault::Points);
         }
         let mut points = [Point::ORIGIN; MOST];
+        // by place, since nothing is known of what is written through `iter_mut`
         for (i, &reading) in readings.iter().enumerate() {
             points[i] = Point::try_from(reading)?;
         }
@@ -85,7 +86,8 @@ impl Material for Mill {
             m: ratio.m.unsigned_abs(),
         };
         let bounds = along(self.measured(), magnitude);
-        if ratio.n < 0 { -bounds } else { bounds }
+        let turned = -bounds;
+        if ratio.n < 0 { turned } else { bounds }
     }
 
     fn least(&self) -> i64 {

@@ -3,7 +3,7 @@ use Rattle.std.specs.Prelude.{◌≡◌, ℕ, suc, List, [], ◌∷◌, ◌++◌
 use Rattle.words.specs.declared.entry.Entry.{Entry}
 use Rattle.words.specs.declared.fault.Fault.{Fault}
 use Rattle.words.specs.declared.fault.Fault.TheVariants.{Unreadable, Unfinished}
-use Rattle.words.specs.Faults.{refused}
+use Rattle.words.specs.Faults.{refused_text}
 use Rattle.words.specs.Lines.{line_of}
 use Rattle.words.specs.Streams.{Cut}
 use Rattle.words.specs.Words.{Stands}
@@ -14,7 +14,7 @@ entry_line i e = decimal i ++ (codes " " ++ (line_of e ++ codes "\n"))
 
 -- the line of a refusal at an index: the refusal, `at`, the index
 abbrev pub refused_line : Fault → ℕ → List ℕ
-refused_line fault i = refused fault ++ (codes " at " ++ (decimal i ++ codes "\n"))
+refused_line fault i = refused_text fault ++ (codes " at " ++ (decimal i ++ codes "\n"))
 
 -- the line of the word w at the index i: the entry that w stands for, or a refusal where it stands for none
 pub data Line (i w : ℕ) (line : List ℕ) : Type 0 where

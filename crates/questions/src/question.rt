@@ -48,6 +48,7 @@ fn leading_numbers(heap: Global, line: &[u8]) -> Result<(Vec<i64>, &[u8]), Alloc
 {
     let mut numbers = Vec::new(heap);
     let mut rest = line;
+    // each number is read from where the one before it ended
     while let Some((z, more)) = first_number(rest) {
         numbers.push(z)?;
         rest = more;

@@ -4,6 +4,7 @@
 use answering::replying::reply;
 use std::io::{self, Read, Write};
 
+// Reads, answers and writes: a program is these lines round one call of a library.
 fn main(rt: HostRuntime) -> io::Result<()> {
     let heap = rt.alloc();
     let mut text = Vec::new(heap);

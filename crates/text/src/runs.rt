@@ -6,6 +6,7 @@ ghost use Rattle.text.specs.Runs.{separates, FirstRun, pieces};
 use crate::lines::Lines;
 
 /// What ends a run of bytes.
+// Two separators with names, of which definitions speak; a closure would say at each call what they are.
 #[derive(Clone, Copy)]
 pub enum Separator {
     /// A line feed ends a line.

@@ -10,5 +10,5 @@ refusal Unwritable = 13
 refusal Unfinished = 15
 
 -- a refusal in words and figures
-abbrev pub refused : Fault → List ℕ
-refused fault = codes "refused " ++ decimal (refusal fault)
+abbrev pub refused_text : Fault → List ℕ
+refused_text fault = codes "refused " ++ decimal (refusal fault)

@@ -1,6 +1,6 @@
 // Why a word, an entry or a stream is refused.
 ghost use Rattle.std.specs.Prelude.{◌≡◌, Some};
-ghost use Rattle.words.specs.Faults.{refusal, refused};
+ghost use Rattle.words.specs.Faults.{refusal, refused_text};
 
 use std::fmt;
 
@@ -15,6 +15,7 @@ pub enum Fault {
     Unfinished,
 }
 
+// Each crate that refuses has faults and numbers of its own; all that they share is the word `refused`.
 /// The number by which the refusal is told.
 impl From<Fault> for u32 {
     ghost from_gives = { λ fault number. number ≡ refusal fault };
@@ -28,7 +29,7 @@ impl From<Fault> for u32 {
 }
 
 impl fmt::Display for Fault {
-    ghost output = { λ fault. Some (refused fault) };
+    ghost output = { λ fault. Some (refused_text fault) };
 
     fn fmt<W: fmt::Write>(&self, f: &mut fmt::Formatter<W>) -> fmt::Result {
         write!(f, "refused {}", u32::from(*self))

@@ -39,7 +39,7 @@ pub(crate) fn along(points: &[Point], ratio: Magnitude) -> Bounds
     whole(last.stress)
 }
 
-// Whether a point lies at the ratio or past it.
+// Whether a point lies at the ratio or past it. (Not `shapes::reaches`, which asks whether a ratio lies at a threshold or past it.)
 fn reaches(point: Point, ratio: Magnitude) -> bool
     ensures { result ≡ fraction_le (over (pos ratio.n) (pos ratio.m)) (at point) }
 {
