@@ -1,5 +1,6 @@
 // Steel by the curve of two to eight points that its mill has measured.
 ghost use Rattle.std.specs.Prelude.{◌≡◌, ◌*◌, ◌≤◌, true, map, take, pos, neg_ℤ};
+ghost use Rattle.exact.specs.Rounding.{Turnable, turned};
 ghost use Rattle.laws.specs.Curves.{last_stress, mill_stress};
 ghost use Rattle.laws.specs.Meaning.{steps};
 ghost use Rattle.laws.specs.Rules.{reading, ruled};
@@ -69,6 +70,18 @@ impl Mill {
     }
 }
 
+// The floor and the ceiling of a stress with its sign turned.
+fn turned(bounds: Bounds) -> Bounds
+    requires { Turnable bounds }
+    ensures { result ≡ turned bounds }
+{
+    let Bounds { floor, ceiling } = bounds;
+    Bounds {
+        floor: -ceiling,
+        ceiling: -floor,
+    }
+}
+
 impl Material for Mill {
     ghost use Rattle.laws.specs.Mills.{points as points_of};
 
@@ -86,8 +99,7 @@ impl Material for Mill {
             m: ratio.m.unsigned_abs(),
         };
         let bounds = along(self.measured(), magnitude);
-        let turned = -bounds;
-        if ratio.n < 0 { turned } else { bounds }
+        if ratio.n < 0 { turned(bounds) } else { bounds }
     }
 
     fn least(&self) -> i64 {
