@@ -10,7 +10,7 @@ use std::alloc::{AllocError, Global};
 use std::fmt;
 use text::runs::first_piece;
 
-/// What is replied to a line.
+/// What is replied to a line: a Result has one case too few.
 #[derive(Clone, Copy)]
 pub enum Reply {
     /// the floor and the ceiling of the stress that the line asks for

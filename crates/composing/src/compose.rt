@@ -36,6 +36,7 @@ pub fn compose(heap: Global, text: &[u8]) -> Result<Vec<u8>, Failure>
     compose_lines(heap, text)
 }
 
+// The first promise, from which `compose` has the second.
 fn compose_lines(heap: Global, text: &[u8]) -> Result<Vec<u8>, Failure>
     ensures { MatchResult result (λ v. Composed text.now v.items) (λ f. Refused text.now f) }
 {

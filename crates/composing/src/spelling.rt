@@ -63,14 +63,15 @@ pub(crate) fn entry_of_kind(kind: Kind, line: &[u8]) -> Option<Entry>
     }
 }
 
-// The numbers of a line that has each after its label, and nothing else.
+// The numbers of a line that has each after its label, and nothing else. The labels are a slice: an array of references
+// whose length is a parameter gets no proof.
 fn numbers<const N: usize>(line: &[u8], labels: &[&str]) -> Option<[i64; N]>
     requires { length labels.now ≡ N }
     ensures { MatchOption result ((zs : List ℤ) → length zs ≡ N → Numbers (labelled_all (map (λ l. l.now) labels.now) zs) (pieces line.now) → ⊥) (λ zs. Numbers (labelled_all (map (λ l. l.now) labels.now) zs) (pieces line.now)) }
 {
     let mut numbers = [0; N];
     let mut rest = line;
-    // by place, since nothing is known of what is written through `iter_mut`
+    // by place: what is written through an `iter_mut` that is zipped with the labels is not known afterwards
     for (i, label) in labels.iter().enumerate() {
         let (number, more) = number_first(rest, label.as_bytes())?;
         numbers[i] = number;

@@ -2,8 +2,7 @@
 #![tactic(auto)]
 
 use listing::list;
-use std::io;
-use std::io::{Read, Write};
+use std::io::{self, Read, Write};
 
 // Reads, answers and writes: a program is these lines round one call of a library.
 fn main(rt: HostRuntime) -> io::Result<()> {

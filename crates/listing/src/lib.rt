@@ -23,6 +23,7 @@ pub fn list(heap: Global, bytes: &[u8]) -> Result<String, AllocError>
     Ok(text)
 }
 
+// The lines of words, in order.
 fn lines(heap: Global, words: &[u32]) -> Result<String, AllocError>
     ensures { IfOk result (λ s. Lines 0 words.now (string_bytes s)) }
 {

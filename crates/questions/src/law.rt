@@ -5,7 +5,7 @@ ghost use Rattle.questions.specs.Questions.{name_of};
 
 pub mod asked;
 
-/// The name of a law.
+/// The name of a law, without what it is made of.
 #[derive(Clone, Copy)]
 pub enum Law {
     /// concrete, by its strength

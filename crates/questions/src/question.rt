@@ -48,7 +48,7 @@ fn leading_numbers(heap: Global, line: &[u8]) -> Result<(Vec<i64>, &[u8]), Alloc
 {
     let mut numbers = Vec::new(heap);
     let mut rest = line;
-    // each number is read from where the one before it ended
+    // each number is read from where the one before it ended, and the first piece that is none is left
     while let Some((z, more)) = first_number(rest) {
         numbers.push(z)?;
         rest = more;
@@ -66,7 +66,7 @@ fn two_at(line: &[u8]) -> Option<(i64, i64)>
     }
 }
 
-// The two numbers of a line that has nothing else.
+// The two numbers of a line that has nothing else: n and m, any two, as a law is handed them.
 fn two(line: &[u8]) -> Option<(i64, i64)>
     ensures { MatchOption result ((n m : ℤ) → Two (pieces line.now) n m → ⊥) (λ p. Two (pieces line.now) p.0 p.1) }
 {

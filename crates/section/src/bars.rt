@@ -9,6 +9,7 @@ pub struct Bar {
     pub area: u32,
 }
 
+// The table, in order.
 const BARS: [Bar; 11] = [
     Bar {
         number: 3,

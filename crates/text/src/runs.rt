@@ -16,6 +16,7 @@ pub enum Separator {
 }
 
 impl Separator {
+    // Whether a byte is this separator.
     fn ends(self, byte: u8) -> bool
         ensures { result ≡ separates self byte }
     {
@@ -32,7 +33,7 @@ impl Separator {
         bytes.iter().position(|byte| self.ends(*byte))
     }
 
-    // Where the first byte stands that is none.
+    // Where the first byte stands that is none: the same search by the opposite test.
     fn first_other_in(self, bytes: &[u8]) -> Option<usize>
         ensures { result ≡ position (λ b. not (separates self b)) bytes.now }
     {
@@ -51,6 +52,7 @@ pub fn first_run(bytes: &[u8], separator: Separator) -> (&[u8], &[u8])
 }
 
 /// The first piece of a line, and the line after it.
+// It hands on the line, since who looks at a piece may leave it where it is: an index, a number that is none.
 pub fn first_piece(line: &[u8]) -> Option<(&[u8], &[u8])>
     ensures { MatchOption result (pieces line.now ≡ []) (λ p. pieces line.now ≡ p.0.now ∷ pieces p.1.now) }
 {

@@ -15,8 +15,8 @@ pub enum Fault {
     Unfinished,
 }
 
-// Each crate that refuses has faults and numbers of its own; all that they share is the word `refused`.
 /// The number by which the refusal is told.
+// Each crate that refuses has faults and numbers of its own; all that they share is the word `refused`.
 impl From<Fault> for u32 {
     ghost from_gives = { λ fault number. number ≡ refusal fault };
 

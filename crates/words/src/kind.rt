@@ -20,6 +20,7 @@ impl TryFrom<u32> for Kind {
 
     ghost try_from_gives = { Coded };
 
+    /// The kind with a code. No derive reads the codes of the enum back.
     fn try_from(code: u32) -> Result<Self, Fault> {
         match code {
             1 => Ok(Kind::Open),

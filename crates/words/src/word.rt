@@ -37,6 +37,7 @@ impl TryFrom<Entry> for u32 {
     }
 }
 
+// The entry alone; that it is the only one is the conversion's promise.
 #[tactic(auto, using(crate::proofs::Unique::kind_stands))]
 fn entry_of(word: u32) -> Result<Entry, Fault>
     ensures { Read word result }
@@ -80,6 +81,7 @@ fn entry_of(word: u32) -> Result<Entry, Fault>
     }
 }
 
+// The word alone; that it is the only one is the conversion's promise.
 fn word_of(entry: Entry) -> Result<u32, Fault>
     ensures { Written entry result }
 {

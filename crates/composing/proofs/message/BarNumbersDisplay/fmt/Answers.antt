@@ -1,4 +1,4 @@
--- One number more.
+-- With each bar, what is written so far has one number more of the table.
 use Rattle.std.proofs.Common.{refl}
 use Rattle.section.specs.Bars.{bars}
 use Rattle.std.proofs.Output.{has_written_of_eq, has_written_append}
