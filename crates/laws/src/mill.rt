@@ -94,11 +94,7 @@ impl Material for Mill {
     ghost means = { λ m. mill_means (points_of m) m.lawful };
 
     fn stress_at(&self, ratio: Ratio) -> Bounds {
-        let magnitude = Magnitude {
-            n: ratio.n.unsigned_abs(),
-            m: ratio.m.unsigned_abs(),
-        };
-        let bounds = along(self.measured(), magnitude);
+        let bounds = along(self.measured(), Magnitude::from(ratio));
         if ratio.n < 0 { turned(bounds) } else { bounds }
     }
 

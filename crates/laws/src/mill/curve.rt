@@ -1,5 +1,5 @@
 // The stress along the points of a mill curve, in compression.
-ghost use Rattle.std.specs.Prelude.{◌≡◌, ◌*◌, ◌<◌, ◌≤◌, true, map, pos};
+ghost use Rattle.std.specs.Prelude.{◌≡◌, ◌*◌, ◌<◌, ◌≤◌, true, map, pos, unsigned_abs};
 ghost use Rattle.exact.specs.Fractions.{over, fraction_le};
 ghost use Rattle.exact.specs.Rounding.{Rounded};
 ghost use Rattle.laws.specs.Curves.{at, curve, line};
@@ -7,6 +7,7 @@ ghost use Rattle.laws.specs.Meaning.{greatest_axis, in_steps};
 ghost use Rattle.laws.specs.Rules.{reading, ruled};
 
 use crate::mill::point::Point;
+use crate::ratio::Ratio;
 use crate::rounding::{rounded, whole};
 use exact::bounds::Bounds;
 use exact::positive::Positive;
@@ -19,6 +20,18 @@ pub(crate) struct Magnitude {
     ghost high: { n ≤ greatest_axis },
     ghost from: { 1 ≤ m },
     ghost to: { m ≤ greatest_axis },
+}
+
+impl From<Ratio> for Magnitude {
+    ghost from_gives = { λ ratio magnitude. (magnitude.n ≡ unsigned_abs ratio.n) × (magnitude.m ≡ unsigned_abs ratio.m) };
+
+    /// The ratio without its sign.
+    fn from(ratio: Ratio) -> Magnitude {
+        Magnitude {
+            n: ratio.n.unsigned_abs(),
+            m: ratio.m.unsigned_abs(),
+        }
+    }
 }
 
 // The stress along the points; where there is none, no stress.
