@@ -54,5 +54,5 @@ fn product(times: u32, number: i64) -> i64
     ensures value { result ≡ pos times *ℤ number }
     ensures small { Within countable result }
 {
-    times as i64 * number
+    i64::from(times) * number
 }

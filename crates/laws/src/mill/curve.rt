@@ -56,7 +56,7 @@ pub(crate) fn along(points: &[Point], ratio: Magnitude) -> Bounds
 fn reaches(point: Point, ratio: Magnitude) -> bool
     ensures { result ≡ fraction_le (over (pos ratio.n) (pos ratio.m)) (at point) }
 {
-    ratio.n * 1_000 <= point.ratio as u64 * ratio.m
+    ratio.n * 1_000 <= u64::from(point.ratio) * ratio.m
 }
 
 // The stress on the straight line from a to b.
@@ -66,10 +66,10 @@ fn between(a: Point, b: Point, ratio: Magnitude) -> Bounds
     requires past { a.ratio * ratio.m ≤ ratio.n * 1000 }
     ensures { Rounded (in_steps (line a b (over (pos ratio.n) (pos ratio.m)))) result }
 {
-    let den = (b.ratio - a.ratio) as u64 * ratio.m;
-    let past = ratio.n * 1_000 - a.ratio as u64 * ratio.m;
-    let start = a.stress as u64;
-    let rise = (b.stress - a.stress) as u64;
+    let den = u64::from(b.ratio - a.ratio) * ratio.m;
+    let past = ratio.n * 1_000 - u64::from(a.ratio) * ratio.m;
+    let start = u64::from(a.stress);
+    let rise = u64::from(b.stress - a.stress);
     rounded(
         (start * den + past * rise) as i64,
         Positive { value: den as i64 },
