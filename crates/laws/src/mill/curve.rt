@@ -34,7 +34,7 @@ impl From<Ratio> for Magnitude {
     }
 }
 
-// The stress along the points; where there is none, no stress.
+// The stress along the points; of no points, no stress.
 pub(crate) fn along(points: &[Point], ratio: Magnitude) -> Bounds
     requires { ruled (map reading points.now) ≡ true }
     ensures { Rounded (in_steps (curve points.now (over (pos ratio.n) (pos ratio.m)))) result }
