@@ -1,4 +1,4 @@
--- The stress of the block and of the trapezoid are shapes over a peak that is a whole number of psi.
+-- The stresses of the block and of the trapezoid are shapes over a peak that is a whole number of psi.
 use Rattle.std.specs.Prelude.{◌≡◌, ℕ, ◌-◌, ◌*◌, Bool, true, false, cond, pos}
 use Rattle.std.proofs.Common.{subst}
 use Rattle.exact.specs.declared.bounds.Bounds.{Bounds}

@@ -28,7 +28,7 @@ pub const MOST: usize = 8;
 #[derive(Clone, Copy)]
 pub struct Mill {
     pub points: [Point; MOST],
-    // a count beside the array: a curve is copied and takes no memory of its own
+    // a count beside the array, so that a curve is Copy like every law and asks for no allocator: an ArrayVec is not Copy
     pub count: usize,
     ghost few: { count ≤ 8 },
     ghost lawful: { ruled (map reading (take count points)) ≡ true },
@@ -45,7 +45,7 @@ impl Mill {
             return Err(Fault::Points);
         }
         let mut points = [Point::ORIGIN; MOST];
-        // by place, since nothing is known of what is written through `iter_mut`
+        // by place: what is written through an `iter_mut` that is zipped with the source is not known afterwards
         for (i, &reading) in readings.iter().enumerate() {
             points[i] = Point::try_from(reading)?;
         }
@@ -94,11 +94,7 @@ impl Material for Mill {
     ghost means = { λ m. mill_means (points_of m) m.lawful };
 
     fn stress_at(&self, ratio: Ratio) -> Bounds {
-        let magnitude = Magnitude {
-            n: ratio.n.unsigned_abs(),
-            m: ratio.m.unsigned_abs(),
-        };
-        let bounds = along(self.measured(), magnitude);
+        let bounds = along(self.measured(), Magnitude::from(ratio));
         if ratio.n < 0 { turned(bounds) } else { bounds }
     }
 

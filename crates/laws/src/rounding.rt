@@ -15,7 +15,7 @@ use exact::positive::Positive;
 pub(crate) fn in_steps(psi: u32) -> i64
     ensures { result ≡ pos (steps * psi) }
 {
-    psi as i64 * STEPS_PER_PSI
+    i64::from(psi) * STEPS_PER_PSI
 }
 
 // A whole number of psi in steps, which is its own floor and ceiling.

@@ -41,7 +41,7 @@ pub(crate) fn step(thousandths: u32, full: u32, ratio: Ratio) -> Bounds
     }
 }
 
-// Whether the ratio is at least so many thousandths.
+// Whether the ratio is at least so many thousandths. (Not `mill::curve::reaches`, which asks whether a point lies at a ratio or past it.)
 fn reaches(thousandths: u32, ratio: Ratio) -> bool
     ensures { result ≡ fraction_le (over (pos thousandths) (pos 1000)) (over ratio.n ratio.m) }
 {
@@ -54,5 +54,5 @@ fn product(times: u32, number: i64) -> i64
     ensures value { result ≡ pos times *ℤ number }
     ensures small { Within countable result }
 {
-    times as i64 * number
+    i64::from(times) * number
 }

@@ -24,8 +24,8 @@ pub struct Yield {
 }
 
 impl Yield {
-    // as short as a concrete law's `new` is: one for both would need a parameter for the strength and one for the law
     /// The yield law of the strength fy, or the fault 1.
+    // as short as a concrete law's `new` is: one for both would need a parameter for the strength and one for the law
     pub fn new(fy: i64) -> Result<Yield, Fault>
         ensures { Made YieldGrade (λ y. y.strength.psi) fy result }
     {

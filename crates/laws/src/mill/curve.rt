@@ -1,5 +1,5 @@
 // The stress along the points of a mill curve, in compression.
-ghost use Rattle.std.specs.Prelude.{◌≡◌, ◌*◌, ◌<◌, ◌≤◌, true, map, pos};
+ghost use Rattle.std.specs.Prelude.{◌≡◌, ◌*◌, ◌<◌, ◌≤◌, true, map, pos, unsigned_abs};
 ghost use Rattle.exact.specs.Fractions.{over, fraction_le};
 ghost use Rattle.exact.specs.Rounding.{Rounded};
 ghost use Rattle.laws.specs.Curves.{at, curve, line};
@@ -7,6 +7,7 @@ ghost use Rattle.laws.specs.Meaning.{greatest_axis, in_steps};
 ghost use Rattle.laws.specs.Rules.{reading, ruled};
 
 use crate::mill::point::Point;
+use crate::ratio::Ratio;
 use crate::rounding::{rounded, whole};
 use exact::bounds::Bounds;
 use exact::positive::Positive;
@@ -21,7 +22,19 @@ pub(crate) struct Magnitude {
     ghost to: { m ≤ greatest_axis },
 }
 
-// The stress along the points; where there is none, no stress.
+impl From<Ratio> for Magnitude {
+    ghost from_gives = { λ ratio magnitude. (magnitude.n ≡ unsigned_abs ratio.n) × (magnitude.m ≡ unsigned_abs ratio.m) };
+
+    /// The ratio without its sign.
+    fn from(ratio: Ratio) -> Magnitude {
+        Magnitude {
+            n: ratio.n.unsigned_abs(),
+            m: ratio.m.unsigned_abs(),
+        }
+    }
+}
+
+// The stress along the points; of no points, no stress.
 pub(crate) fn along(points: &[Point], ratio: Magnitude) -> Bounds
     requires { ruled (map reading points.now) ≡ true }
     ensures { Rounded (in_steps (curve points.now (over (pos ratio.n) (pos ratio.m)))) result }
@@ -43,7 +56,7 @@ pub(crate) fn along(points: &[Point], ratio: Magnitude) -> Bounds
 fn reaches(point: Point, ratio: Magnitude) -> bool
     ensures { result ≡ fraction_le (over (pos ratio.n) (pos ratio.m)) (at point) }
 {
-    ratio.n * 1_000 <= point.ratio as u64 * ratio.m
+    ratio.n * 1_000 <= u64::from(point.ratio) * ratio.m
 }
 
 // The stress on the straight line from a to b.
@@ -53,10 +66,10 @@ fn between(a: Point, b: Point, ratio: Magnitude) -> Bounds
     requires past { a.ratio * ratio.m ≤ ratio.n * 1000 }
     ensures { Rounded (in_steps (line a b (over (pos ratio.n) (pos ratio.m)))) result }
 {
-    let den = (b.ratio - a.ratio) as u64 * ratio.m;
-    let past = ratio.n * 1_000 - a.ratio as u64 * ratio.m;
-    let start = a.stress as u64;
-    let rise = (b.stress - a.stress) as u64;
+    let den = u64::from(b.ratio - a.ratio) * ratio.m;
+    let past = ratio.n * 1_000 - u64::from(a.ratio) * ratio.m;
+    let start = u64::from(a.stress);
+    let rise = u64::from(b.stress - a.stress);
     rounded(
         (start * den + past * rise) as i64,
         Positive { value: den as i64 },

@@ -12,6 +12,7 @@ pub(crate) const GREATEST_RATIO: u32 = 100_000;
 pub(crate) const GREATEST_STRESS: u32 = 100_000;
 
 /// A strain ratio in thousandths, and a stress in psi.
+// a type of its own beside Reading: a reading is any numbers, and a point keeps its limits
 #[derive(Clone, Copy)]
 pub struct Point {
     pub ratio: u32,

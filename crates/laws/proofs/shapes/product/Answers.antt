@@ -11,11 +11,11 @@ far : (t : ℕ) (z : ℤ) → Fits w32 t → Within greatest_axis z → Within 5
 far t z f w = within_times {x = 4294967296} {y = greatest_axis} {a = pos t} {b = z} (record { low = omega (arith, ints); high = omega (arith, ints) }) w
 
 -- both factors as the code has them
-factors : (t : ℕ) (z : ℤ) → Fits w32 t → SFits w64 z → to_z w64 t *ℤ to_z w64 (of_z w64 z) ≡ pos t *ℤ z
-factors t z f g = let e : to_z w64 t ≡ pos t = omega (arith, ints) in simp (e, to_z-of_z)
+factors : (t : ℕ) (x z : ℤ) → Fits w32 t → SFits w64 z → x ≡ pos t → to_z w64 (of_z w64 x) *ℤ to_z w64 (of_z w64 z) ≡ pos t *ℤ z
+factors t x z f g h = let e : to_z w64 (of_z w64 x) ≡ pos t = omega (arith, ints) in simp (e, to_z-of_z)
 
 pub returns : goal.returns
 returns c =
     let w = far c.args.times c.args.number c.ranges.times c.requires in
-    let e = ap (λ (z : ℤ). to_z w64 (of_z w64 z)) (factors c.args.times c.args.number c.ranges.times c.ranges.number) ∙ to_z-of_z w64 (pos c.args.times *ℤ c.args.number) (within_fits w (lit< tt)) in
+    let e = ap (λ (z : ℤ). to_z w64 (of_z w64 z)) (factors c.args.times c.from.result c.args.number c.ranges.times c.ranges.number c.from.ensures) ∙ to_z-of_z w64 (pos c.args.times *ℤ c.args.number) (within_fits w (lit< tt)) in
     record { value = e; small = rw e (record { low = omega (arith, ints); high = omega (arith, ints) }) }

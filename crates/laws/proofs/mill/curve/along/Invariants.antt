@@ -1,4 +1,4 @@
--- The walk's invariant.
+-- The ratio is not before the last point, and the stress along the points from there on is that of the whole curve.
 use Rattle.std.proofs.Common.{drop}
 use Rattle.laws.proofs.Walking.{Ahead}
 use Rattle.laws.proofs.mill.curve.along.Given as goal
