@@ -8,6 +8,7 @@ use crate::material::Material;
 use exact::bounds::Bounds;
 
 /// The floor and the ceiling of the law's stress at n / m, in steps.
+// any two numbers, as `Material::answer` is handed them
 pub fn ask<M: Material>(law: &M, n: i64, m: i64) -> Result<Bounds, Fault>
     ensures answered { Answers (M.Material.stress law.now) n m result }
     ensures between { IfOk result (λ a. Between (M.Material.lowest law.now) (M.Material.highest law.now) a) }

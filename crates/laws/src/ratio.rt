@@ -23,6 +23,7 @@ pub struct Ratio {
 
 impl Ratio {
     /// The ratio n / m, or the fault 3.
+    // of any two numbers: from here on they are one value
     pub fn new(n: i64, m: i64) -> Result<Ratio, Fault>
         ensures { MatchResult result (λ q. Answerable n m × (q.n ≡ n) × (q.m ≡ m)) (λ e. (Answerable n m → ⊥) × (refusal e ≡ 3)) }
     {

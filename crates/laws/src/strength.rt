@@ -23,7 +23,7 @@ pub type YieldStrength = Grade<40_000, 75_000>;
 
 impl<const LEAST: u32, const MOST: u32> Grade<LEAST, MOST> {
     /// The strength of so many psi, or the fault 1.
-    // no TryFrom: a number of psi does not say of which material or law it is, and the name of the type before `new` does
+    // a maker that may refuse, as the library's `NonZero::new` is, and so are the makers of laws
     pub fn new(psi: i64) -> Result<Grade<LEAST, MOST>, Fault>
         ensures { Made (Graded LEAST MOST) (λ s. s.psi) psi result }
     {
