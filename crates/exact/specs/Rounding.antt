@@ -1,5 +1,5 @@
 -- Fractions rounded to whole numbers.
-use Rattle.std.specs.Prelude.{ℤ, pos, ◌+ℤ◌, ◌-ℤ◌, neg_ℤ, ◌≤ℤ◌}
+use Rattle.std.specs.Prelude.{ℤ, pos, ◌+ℤ◌, ◌-ℤ◌, neg_ℤ}
 use Rattle.exact.specs.declared.bounds.Bounds.{Bounds}
 use Rattle.exact.specs.Fractions.{Fraction, whole, ◌≤F◌, ◌<F◌}
 
@@ -21,8 +21,3 @@ pub record Rounded (q : Fraction) (r : Bounds) : Type 0 where
 -- the sign turned: the floor with its sign turned is the ceiling, and the ceiling the floor
 abbrev pub turned : Bounds → Bounds
 turned r = record { floor = neg_ℤ r.ceiling; ceiling = neg_ℤ r.floor }
-
--- neither number is the least of 64 bits, whose sign cannot be turned
-pub record Turnable (r : Bounds) : Type 0 where
-  pub floor : neg_ℤ (pos 9223372036854775807) ≤ℤ r.floor
-  pub ceiling : neg_ℤ (pos 9223372036854775807) ≤ℤ r.ceiling

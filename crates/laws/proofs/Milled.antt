@@ -1,10 +1,11 @@
 -- The mill curve's stress is that of the curve in compression, with the sign of the ratio.
-use Rattle.std.specs.Prelude.{◌≡◌, ℕ, zero, suc, true, List, map, ℤ, pos, negsuc, ◌≤ℤ◌, ◌<ℤ◌, unsigned_abs, refl}
+use Rattle.std.specs.Prelude.{◌≡◌, ℕ, zero, suc, true, List, map, ℤ, pos, negsuc, ◌≤ℤ◌, ◌<ℤ◌, unsigned_abs, neg_ℤ, FitsSigned, refl}
 use Rattle.std.proofs.Common.{arith, sym, subst}
+use Rattle.std.specs.Int.{w64}
 use Rattle.std.proofs.lemmas.Int.{ints}
 use Rattle.exact.specs.declared.bounds.Bounds.{Bounds}
 use Rattle.exact.specs.Fractions.{Fraction, whole, part, over, Crossed≤, Crossed<, ◌≤F◌, ◌<F◌, ◌≈F◌, ◌*F◌, minus}
-use Rattle.exact.specs.Rounding.{Rounded, turned, Turnable}
+use Rattle.exact.specs.Rounding.{Rounded, turned}
 use Rattle.exact.proofs.Represented as R
 use Rattle.exact.proofs.Order.{≤_trans, same_≤, by_fraction_le, over_from, whole_≤}
 use Rattle.exact.proofs.Arithmetic.{minus_rounded}
@@ -16,8 +17,8 @@ use Rattle.laws.specs.Rules.{reading, ruled}
 use Rattle.laws.specs.Owed.Bent.{curve_from, curve_to, last_small}
 use Rattle.laws.specs.Owed.Stepping.{steps_mono, steps_whole}
 
--- what is rounded of the curve is no great number
-pub curve_small : (ps : List Point) (n m : ℕ) {r : Bounds} → ruled (map reading ps) ≡ true → Rounded (in_steps (curve ps (over (pos n) (pos m)))) r → Turnable r
+-- what is rounded of the curve is so small that its sign can be turned
+pub curve_small : (ps : List Point) (n m : ℕ) {r : Bounds} → ruled (map reading ps) ≡ true → Rounded (in_steps (curve ps (over (pos n) (pos m)))) r → FitsSigned w64 (neg_ℤ r.floor) × FitsSigned w64 (neg_ℤ r.ceiling)
 unfolding steps
 curve_small ps n m {r} h w =
     let q = over (pos n) (pos m) in
@@ -27,7 +28,7 @@ curve_small ps n m {r} h w =
     let b = floor_to to w.floor in
     let c = ceiling_from from w.ceiling in
     let d = ceiling_to to w.ceiling in
-    record { floor = omega (arith, ints); ceiling = omega (arith, ints) }
+    (omega (arith, ints), omega (arith, ints))
 
 -- steps of a stress with its sign turned
 steps_minus : (q : Fraction) → minus (in_steps q) ≈F in_steps (minus q)

@@ -1,9 +1,11 @@
 // Steel by the curve of two to eight points that its mill has measured.
-ghost use Rattle.std.specs.Prelude.{◌≡◌, ◌*◌, ◌≤◌, true, map, take, pos, neg_ℤ};
-ghost use Rattle.exact.specs.Rounding.{Turnable, turned};
+ghost use Rattle.std.specs.Prelude.{◌≡◌, ◌*◌, ◌≤◌, true, map, take, pos, neg_ℤ, FitsSigned};
+ghost use Rattle.std.specs.Int.{w64};
+ghost use Rattle.exact.specs.Rounding.{turned};
 ghost use Rattle.laws.specs.Curves.{last_stress, mill_stress};
 ghost use Rattle.laws.specs.Meaning.{steps};
 ghost use Rattle.laws.specs.Rules.{reading, ruled};
+ghost use Rattle.laws.specs.declared.mill.TheConstants.{MOST};
 ghost use Rattle.laws.specs.Owed.Milled.{mill_means};
 
 use crate::fault::Fault;
@@ -30,7 +32,7 @@ pub struct Mill {
     pub points: [Point; MOST],
     // a count beside the array, so that a curve is Copy like every law and asks for no allocator: an ArrayVec is not Copy
     pub count: usize,
-    ghost few: { count ≤ 8 },
+    ghost few: { count ≤ MOST },
     ghost lawful: { ruled (map reading (take count points)) ≡ true },
 }
 
@@ -72,7 +74,8 @@ impl Mill {
 
 // The floor and the ceiling of a stress with its sign turned.
 fn turned(bounds: Bounds) -> Bounds
-    requires { Turnable bounds }
+    requires floor_turns { FitsSigned w64 (neg_ℤ bounds.floor) }
+    requires ceiling_turns { FitsSigned w64 (neg_ℤ bounds.ceiling) }
     ensures { result ≡ turned bounds }
 {
     let Bounds { floor, ceiling } = bounds;

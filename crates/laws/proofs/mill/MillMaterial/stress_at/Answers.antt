@@ -5,7 +5,9 @@ use Rattle.laws.proofs.Milled.{curve_small, mill_compressed, mill_tensed}
 use Rattle.laws.proofs.mill.MillMaterial.stress_at.Goals as goal
 
 pub turned-requires : goal.turned-requires
-turned-requires c = curve_small _ c.from.result.n c.from.result.m (rw c.measured.ensures c.args.self.now.lawful) c.along-bounds.ensures
+turned-requires c =
+    let small = curve_small _ c.from.result.n c.from.result.m (rw c.measured.ensures c.args.self.now.lawful) c.along-bounds.ensures in
+    record { floor_turns = small.0; ceiling_turns = small.1 }
 
 pub returns-then-ratio-lt0 : goal.returns-then-ratio-lt0
 returns-then-ratio-lt0 c =
