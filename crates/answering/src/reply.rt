@@ -10,7 +10,8 @@ use std::alloc::{AllocError, Global};
 use std::fmt;
 use text::runs::first_piece;
 
-/// What is replied to a line: a Result has one case too few.
+/// What is replied to a line.
+// three cases, so no Result
 #[derive(Clone, Copy)]
 pub enum Reply {
     /// the floor and the ceiling of the stress that the line asks for

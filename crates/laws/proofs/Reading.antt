@@ -2,6 +2,7 @@
 use Rattle.std.proofs.Common.{◌≡◌, ℕ, zero, suc, ◌+◌, ◌-◌, ◌<◌, ◌≤◌, Bool, true, false, ◌&&◌, List, [], ◌∷◌, length, get_or, ℤ, pos, negsuc, nat_abs, ◌≤ℤ◌, sym, refl, arith}
 use native.Mathlib.Numerals.{unary_clauses}
 use borrow.Author.Differences.{ints}
+use Rattle.std.proofs.Math.Bool.{and-false}
 use Rattle.std.proofs.lemmas.Bool.Decides.{nat_tests}
 use Rattle.std.specs.Prelude.{nat_le}
 use Rattle.std.specs.List.{IsAllAdjacentAnswer}
@@ -55,10 +56,6 @@ each_read (a ∷ rs) h i d l =
 abbrev pub Sorted : List Reading → Bool → Type 0
 Sorted rs b = IsAllAdjacentAnswer (λ x y t. t ≡ rises x y) rs b
 
-and_false : (b : Bool) → (b && false) ≡ false
-and_false true = refl
-and_false false = refl
-
 -- which decides with the last one whether they climb
 climbs_is : (a : Reading) (rs : List Reading) (d : Reading) (b : Bool) → Sorted (a ∷ rs) b → climbs a rs ≡ (b && in_limits (get_or (a ∷ rs) (length rs) d))
 climbs_is a [] d true h = refl
@@ -69,7 +66,7 @@ climbs_is a (b ∷ rs) d true h =
 climbs_is a (b ∷ rs) d false h = unsorted h.0 h.1 h.2 (λ k l e. climbs_is b rs d false (k, l, e)) where
   unsorted : (k : ℕ) → k + 1 < length (a ∷ b ∷ rs) → ((d : Reading) → false ≡ rises (get_or (a ∷ b ∷ rs) k d) (get_or (a ∷ b ∷ rs) (k + 1) d)) → ((k : ℕ) → k + 1 < length (b ∷ rs) → ((d : Reading) → false ≡ rises (get_or (b ∷ rs) k d) (get_or (b ∷ rs) (k + 1) d)) → climbs b rs ≡ false) → (rises a b && climbs b rs) ≡ false
   unsorted zero l e more = rw (sym (e d)) refl
-  unsorted (suc k) l e more = rw (more k (omega arith) (λ d. simp unary_clauses (simp unary_clauses at (e d)))) (and_false (rises a b))
+  unsorted (suc k) l e more = rw (more k (omega arith) (λ d. simp unary_clauses (simp unary_clauses at (e d)))) (and-false (rises a b))
 
 pub ruled_is : (rs : List Reading) (d : Reading) (b : Bool) → Sorted rs b → ruled rs ≡ ((nat_le 2 (length rs) && nat_le (length rs) 8) && (is_origin (get_or rs 0 d) && (b && in_limits (get_or rs (length rs - 1) d))))
 ruled_is [] d b h = refl
@@ -77,4 +74,4 @@ ruled_is (a ∷ rs) d b h = rw (climbs_is a rs d b h) (simp unary_clauses)
 
 pub not_from_origin : (rs : List Reading) (d : Reading) → is_origin (get_or rs 0 d) ≡ false → ruled rs ≡ false
 not_from_origin [] d h = refl
-not_from_origin (a ∷ rs) d h = rw h (and_false _)
+not_from_origin (a ∷ rs) d h = rw h (and-false _)

@@ -9,7 +9,7 @@ use crate::ratio::Ratio;
 use crate::strength::ConcreteStrength;
 use exact::bounds::Bounds;
 
-/// A stress that rises from 0 to the peak of the concrete's strength.
+/// A stress that never falls as the ratio grows, and stays from 0 to the peak of the concrete's strength.
 pub trait Profile {
     // the exact stress in psi of concrete of a strength, at each ratio
     ghost stress: { ℕ → Fraction → Fraction };

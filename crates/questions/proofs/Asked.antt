@@ -56,13 +56,16 @@ at_ends ps n m h z rest f =
 one_law : (k l : Law) → name_of k ≡ name_of l → k ≡ l
 one_law k l e = grind arith
 
+one_first : (ps rest more : List (List ℕ)) (y z : ℤ) → NumberFirst ps y rest → NumberFirst ps z more → (y ≡ z) × (rest ≡ more)
+one_first ps rest more y z h g =
+    let p = h.1 in
+    let q = g.1 in
+    let pieces : h.0 ≡ g.0 = cc in
+    (one_number g.0 y z (rw pieces at h.2) g.2, cc)
+
 -- what follows the first number is what follows it however it is read
 pub two_after : (ps rest : List (List ℕ)) (y n m : ℤ) → NumberFirst ps y rest → Two ps n m → NumberFirst rest m []
-two_after ps rest y n m h t =
-    let p = h.1 in
-    let q = t.1.1 in
-    let same : t.0 ≡ rest = cc in
-    rw same at t.2
+two_after ps rest y n m h t = rw (one_first ps t.0 rest n y t.1 h).1 at t.2
 
 pub at_two : (ps rest : List (List ℕ)) (r : Option (ℤ × ℤ)) → ps ≡ codes "at" ∷ rest → MatchOption r ((n m : ℤ) → Two rest n m → ⊥) (λ p. Two rest p.0 p.1) → MatchOption r ((n m : ℤ) → At ps n m → ⊥) (λ p. At ps p.0 p.1)
 at_two ps rest None e h = λ n m a. let q = a.1 in let same : a.0 ≡ rest = cc in h n m (rw same at a.2)
@@ -85,13 +88,6 @@ not_at ps head rest name law zs p e h none = λ l ys n m a. none n m (asked_read
 -- nor where the law does not take the numbers
 pub not_taken : (ps head rest : List (List ℕ)) (name : List ℕ) (law : Law) (zs : List ℤ) → ps ≡ name ∷ head → name ≡ name_of law → Leading head zs rest × NoNumberFirst rest → (Takes law zs → ⊥) → AsksNothing ps
 not_taken ps head rest name law zs p e h none = λ l ys n m a. none (asked_read ps head rest name law zs p e h.0 h.1 l ys n m a).0
-
-one_first : (ps rest more : List (List ℕ)) (y z : ℤ) → NumberFirst ps y rest → NumberFirst ps z more → (y ≡ z) × (rest ≡ more)
-one_first ps rest more y z h g =
-    let p = h.1 in
-    let q = g.1 in
-    let pieces : h.0 ≡ g.0 = cc in
-    (one_number g.0 y z (rw pieces at h.2) g.2, cc)
 
 one_at : (ps : List (List ℕ)) (n m x y : ℤ) → At ps n m → At ps x y → (n ≡ x) × (m ≡ y)
 one_at ps n m x y h g =
