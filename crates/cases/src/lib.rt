@@ -1,8 +1,10 @@
-// Examples of bars, entry words, listings and lines, run against what the formats say.
+// Examples of bars, curves, entry words, listings and lines, run against what the formats and the laws say.
 #![tactic(auto)]
 
 #[cfg(test)]
 mod bars;
+#[cfg(test)]
+mod curves;
 #[cfg(test)]
 mod lines;
 #[cfg(test)]

@@ -1,5 +1,6 @@
 -- Floors and ceilings: they rise with the fraction, there is one of each, and Euclidean division by a positive number gives them.
-use Rattle.std.proofs.Common.{◌≡◌, ℕ, zero, suc, ◌+◌, ◌-◌, ◌*◌, ◌/◌, ◌%◌, ◌<◌, ◌≤◌, ℤ, pos, negsuc, ◌+ℤ◌, ◌-ℤ◌, ◌*ℤ◌, ◌≤ℤ◌, ◌<ℤ◌, refl, mod-lt, arith}
+use Rattle.std.proofs.Common.{◌≡◌, ℕ, zero, suc, ◌+◌, ◌-◌, ◌*◌, ◌/◌, ◌%◌, ◌<◌, ◌≤◌, ℤ, pos, negsuc, ◌+ℤ◌, ◌-ℤ◌, ◌*ℤ◌, ◌≤ℤ◌, ◌<ℤ◌, refl, mod-lt, arith, w64, SFits, of_z, to_z}
+use Rattle.std.proofs.lemmas.Int.{to_z-of_z}
 use Rattle.std.proofs.Math.Nat.{div-add-mod}
 use borrow.Author.Differences.{ints, up, down}
 use Rattle.std.specs.Int.{int_div_euclid, int_rem_euclid}
@@ -118,6 +119,10 @@ pub floor_is : (z m k x : ℤ) → pos 1 ≤ℤ m → k ≡ int_div_euclid z m �
 floor_is z (pos zero) k x h e i = absurd h.le
 floor_is z (negsuc d) k x h e i = absurd h.le
 floor_is z (pos (suc d)) k x h e i = rw (i, e) (let p = parted z d in parted_floor z (int_div_euclid z (pos (suc d))) d p.0 p.2)
+
+-- so is the machine's quotient of machine numbers
+pub floor_divided : {z m k : ℤ} → SFits w64 z → SFits w64 m → SFits w64 k → pos 1 ≤ℤ m → k ≡ int_div_euclid (to_z w64 (of_z w64 z)) (to_z w64 (of_z w64 m)) → IsFloor (over z m) (to_z w64 (of_z w64 k))
+floor_divided {z} {m} {k} f g h p e = floor_is z m k _ p (simp (to_z-of_z w64 z f, to_z-of_z w64 m g) at e) (to_z-of_z w64 k h)
 
 pub ceiling_is : (z m k r x : ℤ) → pos 1 ≤ℤ m → k ≡ int_div_euclid z m → r ≡ int_rem_euclid z m → r ≡ pos 0 → x ≡ k → IsCeiling (over z m) x
 ceiling_is z (pos zero) k r x h e f n i = absurd h.le

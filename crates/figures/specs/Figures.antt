@@ -1,6 +1,5 @@
 -- Worked figures of the laws, as theorems about their definitions.
 use Rattle.std.specs.Prelude.{◌≡◌, List, [], ◌∷◌, ℤ, pos, negsuc, Ok, Result}
-use Rattle.std.proofs.Common.{lit≤}
 use Rattle.exact.specs.declared.bounds.Bounds.{Bounds}
 use Rattle.exact.specs.Fractions.{Fraction}
 use Rattle.laws.specs.declared.fault.Fault.{Fault}
@@ -21,7 +20,7 @@ Gives f n m a = (r : Result Bounds Fault) → Answers f n m r → r ≡ Ok a
 -- the points of a mill curve: 60,000 psi at 0.69 of the crushing strain, 80,000 at five times it
 abbrev pub measured : List Point
 measured =
-    record { ratio = 0; stress = 0; near = lit≤ tt; weak = lit≤ tt } ∷ record { ratio = 690; stress = 60000; near = lit≤ tt; weak = lit≤ tt } ∷ record { ratio = 5000; stress = 80000; near = lit≤ tt; weak = lit≤ tt } ∷ []
+    record { ratio = 0; stress = 0 } ∷ record { ratio = 690; stress = 60000 } ∷ record { ratio = 5000; stress = 80000 } ∷ []
 
 -- β in thousandths at strengths in psi; floors and ceilings in steps, which are psi
 pub record Worked : Type 0 where

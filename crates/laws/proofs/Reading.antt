@@ -1,5 +1,5 @@
 -- Readings that keep the rules are those of points, and sorted readings climb.
-use Rattle.std.proofs.Common.{◌≡◌, ℕ, zero, suc, ◌+◌, ◌-◌, ◌<◌, ◌≤◌, Bool, true, false, ◌&&◌, List, [], ◌∷◌, length, get_or, ℤ, pos, negsuc, nat_abs, ◌≤ℤ◌, sym, refl, arith}
+use Rattle.std.proofs.Common.{◌≡◌, ℕ, zero, suc, ◌+◌, ◌-◌, ◌<◌, Bool, true, false, ◌&&◌, List, [], ◌∷◌, length, get_or, ℤ, pos, negsuc, nat_abs, ◌≤ℤ◌, sym, refl, arith}
 use native.Mathlib.Numerals.{unary_clauses}
 use borrow.Author.Differences.{ints}
 use Rattle.std.proofs.Math.Bool.{and-false}
@@ -8,34 +8,23 @@ use Rattle.std.specs.Prelude.{nat_le}
 use Rattle.std.specs.List.{IsAllAdjacentAnswer}
 use Rattle.laws.specs.declared.mill.point.Point.{Point}
 use Rattle.laws.specs.declared.mill.reading.Reading.{Reading}
-use Rattle.laws.specs.Meaning.{farthest, greatest_ratio}
 use Rattle.laws.specs.Rules.{reading, is_origin, rises, in_limits, climbs, ruled}
+use Rattle.laws.specs.Owed.Bent.{limited}
 
 -- a whole number without a sign
 natural : (z : ℤ) → pos 0 ≤ℤ z → z ≡ pos (nat_abs z)
 natural (pos n) h = refl
 natural (negsuc n) h = absurd (omega (arith, ints))
 
--- r is read of a point
+-- r is read of a point, and in its limits
 abbrev pub IsRead : Reading → Type 0
-IsRead r = (p : Point) × (r ≡ reading p)
+IsRead r = (p : Point) × (r ≡ reading p) × (in_limits r ≡ true)
 
 -- so is one that is neither negative nor past a limit
 read : (r : Reading) → pos 0 ≤ℤ r.ratio → pos 0 ≤ℤ r.stress → in_limits r ≡ true → IsRead r
-read r h g l = (record { ratio = nat_abs r.ratio; stress = nat_abs r.stress; near = near; weak = weak }, same (natural r.ratio h) (natural r.stress g)) where
-  near : nat_abs r.ratio ≤ greatest_ratio
-  near = let e = natural r.ratio h in grind (arith, ints, nat_tests)
-
-  weak : nat_abs r.stress ≤ farthest
-  weak = let e = natural r.stress g in grind (arith, ints, nat_tests)
-
+read r h g l = (record { ratio = nat_abs r.ratio; stress = nat_abs r.stress }, same (natural r.ratio h) (natural r.stress g), l) where
   same : {x y u v : ℤ} → x ≡ u → y ≡ v → ◌≡◌ {A = Reading} (record { ratio = x; stress = y }) (record { ratio = u; stress = v })
   same e f = cc
-
--- what climbs is in its limits
-limited : (a : Reading) (rs : List Reading) → climbs a rs ≡ true → in_limits a ≡ true
-limited a [] h = h
-limited a (b ∷ rs) h = let l = limited b rs (grind (arith, nat_tests)) in grind (arith, ints, nat_tests)
 
 climbing : (a : Reading) (rs : List Reading) → pos 0 ≤ℤ a.ratio → pos 0 ≤ℤ a.stress → climbs a rs ≡ true → (i : ℕ) (d : Reading) → i < length rs + 1 → IsRead (get_or (a ∷ rs) i d)
 climbing a rs h g k zero d l = read a h g (limited a rs k)

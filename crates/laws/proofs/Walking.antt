@@ -8,7 +8,7 @@ use Rattle.laws.specs.declared.mill.point.Point.{Point}
 use Rattle.laws.specs.Curves.{beyond, curve}
 use Rattle.laws.specs.Meaning.{in_steps}
 use Rattle.laws.specs.Rules.{reading, climbs}
-use Rattle.laws.specs.Owed.Bent.{climbs_more}
+use Rattle.laws.specs.Owed.Bent.{climbs_more, limited}
 use Rattle.laws.specs.Owed.Straight.{Leads, leads}
 
 -- from `last` on, past which the ratio n / m is, the rest is the curve's
@@ -30,7 +30,9 @@ module _ (n m : ℕ) (ps qs : List Point) (a : Point) (i : ℕ) (w : Ahead ps n 
     here = subst (Ahead ps n m a) (drop_more qs i d h) w
 
     pub ahead_leads : Leads a b
-    ahead_leads = leads a b (climbs_more a b (drop (i + 1) qs) here.rules).rise
+    ahead_leads =
+        let c = climbs_more a b (drop (i + 1) qs) here.rules in
+        leads a b c.rise (limited (reading b) (map reading (drop (i + 1) qs)) c.rest)
 
   pub ahead_end : {r : Bounds} → length qs ≤ i → Rounded (in_steps (whole (pos a.stress))) r → Rounded (in_steps (curve ps ratio)) r
   ahead_end {r} h e =

@@ -5,7 +5,12 @@ use Rattle.laws.specs.declared.mill.Mill.{Mill}
 use Rattle.laws.specs.declared.mill.point.Point.{Point}
 use Rattle.laws.specs.declared.mill.reading.Reading.{Reading}
 use Rattle.laws.specs.Faults.{refusal}
-use Rattle.laws.specs.Rules.{reading, ruled}
+use Rattle.laws.specs.Rules.{reading, in_limits, ruled}
+
+-- the point that was read, in its limits, or refused 2 where no point in them reads so
+abbrev pub PointRead : Reading → Result Point Fault → Type 0
+PointRead r (Ok p) = (r ≡ reading p) × (in_limits r ≡ true)
+PointRead r (Err e) = ((p : Point) → r ≡ reading p → in_limits r ≡ true → ⊥) × (refusal e ≡ 2)
 
 -- the points of a mill curve: the first `count`
 abbrev pub points : Mill → List Point

@@ -72,7 +72,7 @@ at_two ps rest None e h = λ n m a. let q = a.1 in let same : a.0 ≡ rest = cc 
 at_two ps rest (Some p) e h = (rest, e, h)
 
 -- what a line asks is what was read of it
-asked_read : (ps head rest : List (List ℕ)) (name : List ℕ) (law : Law) (zs : List ℤ) → ps ≡ name ∷ head → name ≡ name_of law → Leading head zs rest → NoNumberFirst rest → (l : Law) (ys : List ℤ) (n m : ℤ) → Asks ps l ys n m → Takes law zs × At rest n m
+pub asked_read : (ps head rest : List (List ℕ)) (name : List ℕ) (law : Law) (zs : List ℤ) → ps ≡ name ∷ head → name ≡ name_of law → Leading head zs rest → NoNumberFirst rest → (l : Law) (ys : List ℤ) (n m : ℤ) → Asks ps l ys n m → Takes law zs × At rest n m
 asked_read ps head rest name law zs p e h none l ys n m a =
     let q = a.cut in
     let names : name_of l ≡ name_of law = cc in

@@ -1,7 +1,7 @@
 // The laws by which stress follows strain, by their names.
-ghost use Rattle.std.specs.Prelude.{◌≡◌, MatchOption, ◌≢◌};
+ghost use Rattle.std.specs.Prelude.{◌≡◌, Decides, MatchOption, ◌≢◌};
 ghost use Rattle.questions.specs.declared.law.Law.{Law};
-ghost use Rattle.questions.specs.Questions.{name_of};
+ghost use Rattle.questions.specs.Questions.{Takes, name_of};
 
 pub mod asked;
 
@@ -16,6 +16,18 @@ pub enum Law {
     Yield,
     /// steel, by the points of its mill curve, a ratio and a stress each
     Mill,
+}
+
+impl Law {
+    // Whether the law takes as many numbers as these.
+    pub(crate) fn takes(self, numbers: &[i64]) -> bool
+        ensures { Decides result (Takes self numbers.now) }
+    {
+        match self {
+            Law::Block | Law::Trapezoid | Law::Yield => numbers.len() == 1,
+            Law::Mill => numbers.len() % 2 == 0,
+        }
+    }
 }
 
 /// The law with a name.

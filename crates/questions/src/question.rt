@@ -32,6 +32,10 @@ pub fn question_asked(heap: Global, line: &[u8]) -> Result<Option<Question>, All
         return Ok(None);
     };
     let (numbers, rest) = leading_numbers(heap, rest)?;
+    // before the rest is read: a line of another count asks nothing, whatever follows
+    if !law.takes(numbers.as_slice()) {
+        return Ok(None);
+    }
     let Some((n, m)) = two_at(rest) else {
         return Ok(None);
     };

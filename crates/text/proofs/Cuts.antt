@@ -63,7 +63,7 @@ onto_some b [] ts e = cc
 onto_some b (r ∷ rs) ts e = cc
 
 -- a run that begins with no blank is a piece
-one_piece : (bs run rest : List ℕ) → 0 < length bs → separates Blank (get_or bs 0 0) ≡ false → FirstRun Blank bs run rest → pieces bs ≡ run ∷ pieces rest
+pub one_piece : (bs run rest : List ℕ) → 0 < length bs → separates Blank (get_or bs 0 0) ≡ false → FirstRun Blank bs run rest → pieces bs ≡ run ∷ pieces rest
 unfolding filled runs
 one_piece [] run rest l other h = absurd (omega arith)
 one_piece (b ∷ bs) [] rest l other h = absurd (onto_some b _ _ (sym (cond-false _ _ _ other) ∙ h.cut l))

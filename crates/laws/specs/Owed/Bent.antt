@@ -1,5 +1,5 @@
 -- A mill curve in compression rises from 0 to its last stress, point by point.
-use Rattle.std.specs.Prelude.{◌≡◌, ℕ, ◌≤◌, true, List, [], ◌∷◌, map, pos}
+use Rattle.std.specs.Prelude.{◌≡◌, ℕ, ◌<◌, ◌≤◌, true, List, [], ◌∷◌, map, pos}
 use Rattle.std.proofs.Common.{arith, subst}
 use Rattle.std.proofs.lemmas.Int.{ints}
 use Rattle.std.proofs.lemmas.Bool.Decides.{nat_tests}
@@ -7,8 +7,9 @@ use Rattle.exact.specs.Fractions.{Fraction, whole, over, Crossed≤, ◌≤F◌}
 use Rattle.exact.proofs.Order.{≤_refl, ≤_trans, <_weak, whole_≤, by_fraction_le, rising_past}
 use Rattle.laws.specs.declared.mill.point.Point.{Point}
 use Rattle.laws.specs.Curves.{at, line, beyond, curve, last, last_stress}
-use Rattle.laws.specs.Meaning.{farthest}
-use Rattle.laws.specs.Rules.{reading, rises, climbs, ruled}
+use Rattle.laws.specs.Meaning.{farthest, greatest_ratio}
+use Rattle.laws.specs.declared.mill.reading.Reading.{Reading}
+use Rattle.laws.specs.Rules.{reading, rises, in_limits, climbs, ruled}
 use Rattle.laws.specs.Owed.Straight.{Leads, leads, line_mono, line_from, line_to}
 
 -- what the rules say of the first point, and of the rest
@@ -30,19 +31,26 @@ climbs_more a b ps h = record { rise = grind (arith, ints, nat_tests); rest = gr
 
 -- how far a climb goes
 record Reach (a : Point) (ps : List Point) : Type 0 where
+  ratio : a.ratio ≤ greatest_ratio
   from : a.stress ≤ last a ps
   to : last a ps ≤ farthest
 
 reach : (a : Point) (ps : List Point) → climbs (reading a) (map reading ps) ≡ true → Reach a ps
-reach a [] h = record { from = omega arith; to = a.weak }
+reach a [] h = record { ratio = grind (arith, ints, nat_tests); from = omega arith; to = grind (arith, ints, nat_tests) }
 reach a (b ∷ ps) h =
     let c = climbs_more a b ps h in
     let i = reach b ps c.rest in
-    let l = leads a b c.rise in
-    record { from = omega arith; to = i.to }
+    let r : a.ratio < b.ratio = grind (arith, ints, nat_tests) in
+    let s : a.stress ≤ b.stress = grind (arith, ints, nat_tests) in
+    record { ratio = omega arith; from = omega arith; to = i.to }
+
+-- what climbs is in its limits
+pub limited : (a : Reading) (rs : List Reading) → climbs a rs ≡ true → in_limits a ≡ true
+limited a [] h = h
+limited a (b ∷ rs) h = let l = limited b rs (grind (arith, nat_tests)) in grind (arith, ints, nat_tests)
 
 next : (a b : Point) (ps : List Point) → climbs (reading a) (map reading (b ∷ ps)) ≡ true → Leads a b
-next a b ps h = leads a b (climbs_more a b ps h).rise
+next a b ps h = let c = climbs_more a b ps h in leads a b c.rise (limited (reading b) (map reading ps) c.rest)
 
 beyond_from : (a : Point) (ps : List Point) → climbs (reading a) (map reading ps) ≡ true → (q : Fraction) → at a ≤F q → whole (pos a.stress) ≤F beyond a ps q
 beyond_from a [] h q l = ≤_refl

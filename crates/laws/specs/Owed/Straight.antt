@@ -9,15 +9,18 @@ use Rattle.exact.proofs.Order.{≤_refl, ≤_trans, over_from}
 use Rattle.exact.proofs.Arithmetic.{+_mono, *_mono, *_from, +_from, past_from}
 use Rattle.laws.specs.declared.mill.point.Point.{Point}
 use Rattle.laws.specs.Curves.{at, line}
-use Rattle.laws.specs.Rules.{reading, rises}
+use Rattle.laws.specs.Meaning.{farthest, greatest_ratio}
+use Rattle.laws.specs.Rules.{reading, rises, in_limits}
 
--- b comes after a, and is no lower
+-- b comes after a, and is in its limits
 pub record Leads (a b : Point) : Type 0 where
   pub ratio : a.ratio < b.ratio
   pub stress : a.stress ≤ b.stress
+  pub far : b.ratio ≤ greatest_ratio
+  pub strong : b.stress ≤ farthest
 
-pub leads : (a b : Point) → rises (reading a) (reading b) ≡ true → Leads a b
-leads a b h = record { ratio = grind (arith, ints, nat_tests); stress = grind (arith, ints, nat_tests) }
+pub leads : (a b : Point) → rises (reading a) (reading b) ≡ true → in_limits (reading b) ≡ true → Leads a b
+leads a b h g = record { ratio = grind (arith, ints, nat_tests); stress = grind (arith, ints, nat_tests); far = grind (arith, ints, nat_tests); strong = grind (arith, ints, nat_tests) }
 
 -- s psi at the ratio r, and e psi more at the ratio g thousandths past it
 line_end : (s e r g : ℕ) → 0 < g → whole (pos s) +F over (pos (1000 * e)) (pos g) *F (over (pos (r + g)) (pos 1000) +F minus (over (pos r) (pos 1000))) ≤F whole (pos (s + e))

@@ -3,7 +3,7 @@ ghost use Rattle.std.specs.Prelude.{◌≡◌, ◌*◌, ◌<◌, ◌≤◌, true
 ghost use Rattle.exact.specs.Fractions.{over, fraction_le};
 ghost use Rattle.exact.specs.Rounding.{Rounded};
 ghost use Rattle.laws.specs.Curves.{at, curve, line};
-ghost use Rattle.laws.specs.Meaning.{greatest_axis, in_steps};
+ghost use Rattle.laws.specs.Meaning.{farthest, greatest_axis, greatest_ratio, in_steps};
 ghost use Rattle.laws.specs.Rules.{reading, ruled};
 
 use crate::mill::point::Point;
@@ -63,6 +63,8 @@ fn reaches(point: Point, ratio: Magnitude) -> bool
 fn between(a: Point, b: Point, ratio: Magnitude) -> Bounds
     requires further { a.ratio < b.ratio }
     requires no_less { a.stress ≤ b.stress }
+    requires near { b.ratio ≤ greatest_ratio }
+    requires weak { b.stress ≤ farthest }
     requires past { a.ratio * ratio.m ≤ ratio.n * 1000 }
     ensures { Rounded (in_steps (line a b (over (pos ratio.n) (pos ratio.m)))) result }
 {

@@ -1,6 +1,5 @@
 -- Figures are text, and are read as the number that they write.
-use Rattle.std.proofs.Common.{ℕ, List, ℤ, subst, MatchOption}
-use Rattle.text.specs.Figures.{Figures}
+use Rattle.std.proofs.Common.{rules}
 use Rattle.text.proofs.Readings.{figures_utf8, kept, not_kept, number_read}
 use Rattle.text.proofs.figures.number.Goals as goal
 
@@ -11,5 +10,4 @@ returns-in_err-ok c =
 pub returns : goal.returns
 returns c =
     let text = kept _ _ c.in_ok-ok.field-0 _ c.from_utf8.ensures.cases c.in_ok-ok.ensures.value in
-    subst (λ (bs : List ℕ). MatchOption c.ok-2.result ((z : ℤ) → Figures bs z → ⊥) (λ z. Figures bs z)) text.0
-    (number_read _ c.parse.result c.ok-2.result c.parse.ensures.value.0 c.ok-2.ensures.value)
+    number_read _ _ c.parse.result _ text.0 c.parse.ensures.value.0 (search rules)

@@ -15,11 +15,11 @@ returns c =
     let run : b.ratio - a.ratio ≤ 100000 = omega arith in
     let far : m ≤ 120000 = c.args.ratio.to in
     let width = mul-le-mul run far in
-    let start : a.stress ≤ 100000 = a.weak in
+    let start : a.stress ≤ 100000 = omega arith in
     let past : n * 1000 - a.ratio * m ≤ 120000000 = omega arith in
     let rise : b.stress - a.stress ≤ 100000 = omega arith in
     let below = mul-le-mul start width in
     let above = mul-le-mul past rise in
     let d : to_z w64 den ≡ pos den = omega (arith, ints) in
     let z : to_z w64 num ≡ pos num = omega (arith, ints) in
-    rounded_line a b (record { ratio = c.requires.further; stress = c.requires.no_less }) n m c.args.ratio.from c.requires.past {z = to_z w64 num} {d = to_z w64 den} (simp (c.from.ensures, c.from-2.ensures, c.from-start.ensures, c.from-rise.ensures) at c.rounded.ensures) z d
+    rounded_line a b (record { ratio = c.requires.further; stress = c.requires.no_less; far = c.requires.near; strong = c.requires.weak }) n m c.args.ratio.from c.requires.past {z = to_z w64 num} {d = to_z w64 den} (simp (c.from.ensures, c.from-2.ensures, c.from-start.ensures, c.from-rise.ensures) at c.rounded.ensures) z d
