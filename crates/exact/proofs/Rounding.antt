@@ -120,7 +120,7 @@ floor_is z (pos zero) k x h e i = absurd h.le
 floor_is z (negsuc d) k x h e i = absurd h.le
 floor_is z (pos (suc d)) k x h e i = rw (i, e) (let p = parted z d in parted_floor z (int_div_euclid z (pos (suc d))) d p.0 p.2)
 
--- so is the machine's quotient of machine numbers
+-- the floor of machine numbers, by the machine's quotient
 pub floor_divided : {z m k : ℤ} → SFits w64 z → SFits w64 m → SFits w64 k → pos 1 ≤ℤ m → k ≡ int_div_euclid (to_z w64 (of_z w64 z)) (to_z w64 (of_z w64 m)) → IsFloor (over z m) (to_z w64 (of_z w64 k))
 floor_divided {z} {m} {k} f g h p e = floor_is z m k _ p (simp (to_z-of_z w64 z f, to_z-of_z w64 m g) at e) (to_z-of_z w64 k h)
 

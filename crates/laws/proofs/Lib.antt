@@ -5,6 +5,7 @@ pub mod Peaks
 pub mod Slopes
 pub mod Straight
 pub mod Walking
+pub mod Lasting
 pub mod Milled
 pub mod Reading
 pub mod Unique

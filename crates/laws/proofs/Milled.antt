@@ -1,6 +1,5 @@
 -- The mill curve's stress is that of the curve in compression, with the sign of the ratio.
-use native.Mathlib.Numerals.{unary_clauses}
-use Rattle.std.specs.Prelude.{◌≡◌, ℕ, zero, suc, ◌-◌, ◌<◌, ◌≤◌, true, List, [], ◌∷◌, map, take, length, get_or, ℤ, pos, negsuc, ◌≤ℤ◌, ◌<ℤ◌, unsigned_abs, neg_ℤ, FitsSigned, refl}
+use Rattle.std.specs.Prelude.{◌≡◌, ℕ, zero, suc, true, List, map, ℤ, pos, negsuc, ◌≤ℤ◌, ◌<ℤ◌, unsigned_abs, neg_ℤ, FitsSigned, refl}
 use Rattle.std.proofs.Common.{arith, sym, subst}
 use Rattle.std.specs.Int.{w64}
 use Rattle.std.proofs.lemmas.Int.{ints}
@@ -12,22 +11,11 @@ use Rattle.exact.proofs.Order.{≤_trans, same_≤, by_fraction_le, over_from, w
 use Rattle.exact.proofs.Arithmetic.{minus_rounded}
 use Rattle.exact.proofs.Rounding.{floor_from, floor_to, ceiling_from, ceiling_to, rounded_same}
 use Rattle.laws.specs.declared.mill.point.Point.{Point}
-use Rattle.laws.specs.Curves.{curve, mill_stress, last, last_stress}
+use Rattle.laws.specs.Curves.{curve, mill_stress}
 use Rattle.laws.specs.Meaning.{steps, in_steps, farthest}
 use Rattle.laws.specs.Rules.{reading, ruled}
 use Rattle.laws.specs.Owed.Bent.{curve_from, curve_to, last_small}
 use Rattle.laws.specs.Owed.Stepping.{steps_mono, steps_whole}
-
--- the last of the first n points is at the place before n
-last_along : (p : Point) (ps : List Point) (k : ℕ) (d : Point) → k ≤ length ps → last p (take k ps) ≡ (get_or (p ∷ ps) k d).stress
-last_along p ps zero d h = refl
-last_along p [] (suc k) d h = absurd (omega arith)
-last_along p (q ∷ ps) (suc k) d h = last_along q ps k d (omega arith)
-
-pub last_at : (ps : List Point) (n : ℕ) (d : Point) → 0 < n → n ≤ length ps → last_stress (take n ps) ≡ (get_or ps (n - 1) d).stress
-last_at ps zero d h l = absurd (omega arith)
-last_at [] (suc k) d h l = absurd (omega arith)
-last_at (p ∷ ps) (suc k) d h l = simp unary_clauses (last_along p ps k d (omega arith))
 
 -- what is rounded of the curve is so small that its sign can be turned
 pub curve_small : (ps : List Point) (n m : ℕ) {r : Bounds} → ruled (map reading ps) ≡ true → Rounded (in_steps (curve ps (over (pos n) (pos m)))) r → FitsSigned w64 (neg_ℤ r.floor) × FitsSigned w64 (neg_ℤ r.ceiling)

@@ -33,14 +33,15 @@ pub not_kept : {T E : Type 0} (P : T → Type 0) (A : Type 0) (B : E → Type 0)
 not_kept P A B (Ok y) h e = cc
 not_kept P A B (Err y) h e = h.0
 
-itself : {E : Type 0} (bs : List ℕ) (r : Result ℤ E) (o : Option ℤ) → ParsesSigned w64 10 bs r → o ≡ result_ok r → MatchOption o ((z : ℤ) → Figures bs z → ⊥) (λ z. Figures bs z)
+-- of a text
+text_read : {E : Type 0} (bs : List ℕ) (r : Result ℤ E) (o : Option ℤ) → ParsesSigned w64 10 bs r → o ≡ result_ok r → MatchOption o ((z : ℤ) → Figures bs z → ⊥) (λ z. Figures bs z)
 unfolding Figures
-itself bs (Ok x) o h e = rw e h
-itself bs (Err x) o h e = rw e (λ z f. h f.0)
+text_read bs (Ok x) o h e = rw e h
+text_read bs (Err x) o h e = rw e (λ z f. h f.0)
 
--- the text of a piece
+-- and of a piece that is this text
 pub number_read : {E : Type 0} (bs text : List ℕ) (r : Result ℤ E) (o : Option ℤ) → text ≡ bs → ParsesSigned w64 10 text r → o ≡ result_ok r → MatchOption o ((z : ℤ) → Figures bs z → ⊥) (λ z. Figures bs z)
-number_read bs text r o t h e = subst (λ (bs : List ℕ). MatchOption o ((z : ℤ) → Figures bs z → ⊥) (λ z. Figures bs z)) t (itself text r o h e)
+number_read bs text r o t h e = subst (λ (bs : List ℕ). MatchOption o ((z : ℤ) → Figures bs z → ⊥) (λ z. Figures bs z)) t (text_read text r o h e)
 
 pub one_number : (piece : List ℕ) (y z : ℤ) → Figures piece y → Figures piece z → y ≡ z
 unfolding Figures

@@ -63,8 +63,7 @@ fn reaches(point: Point, ratio: Magnitude) -> bool
 fn between(a: Point, b: Point, ratio: Magnitude) -> Bounds
     requires further { a.ratio < b.ratio }
     requires no_less { a.stress ≤ b.stress }
-    requires near { b.ratio ≤ greatest_ratio }
-    requires weak { b.stress ≤ farthest }
+    requires limits { (b.ratio ≤ greatest_ratio) × (b.stress ≤ farthest) }
     requires past { a.ratio * ratio.m ≤ ratio.n * 1000 }
     ensures { Rounded (in_steps (line a b (over (pos ratio.n) (pos ratio.m)))) result }
 {

@@ -10,7 +10,8 @@ pub(crate) const GREATEST_RATIO: u32 = 100_000;
 pub(crate) const GREATEST_STRESS: u32 = 100_000;
 
 /// A strain ratio in thousandths, and a stress in psi.
-// any two such numbers: their limits are promised where a point is read, and kept by a curve of the points that are its own
+// a type of its own beside Reading, which may be negative. A point may be past a limit: that it is not is promised where it
+// is read, and kept by a curve of the points that are its own
 #[derive(Clone, Copy)]
 pub struct Point {
     pub ratio: u32,

@@ -22,4 +22,4 @@ returns c =
     let above = mul-le-mul past rise in
     let d : to_z w64 den ≡ pos den = omega (arith, ints) in
     let z : to_z w64 num ≡ pos num = omega (arith, ints) in
-    rounded_line a b (record { ratio = c.requires.further; stress = c.requires.no_less; far = c.requires.near; strong = c.requires.weak }) n m c.args.ratio.from c.requires.past {z = to_z w64 num} {d = to_z w64 den} (simp (c.from.ensures, c.from-2.ensures, c.from-start.ensures, c.from-rise.ensures) at c.rounded.ensures) z d
+    rounded_line a b (record { ratio = c.requires.further; stress = c.requires.no_less; far = c.requires.limits.0; strong = c.requires.limits.1 }) n m c.args.ratio.from c.requires.past {z = to_z w64 num} {d = to_z w64 den} (simp (c.from.ensures, c.from-2.ensures, c.from-start.ensures, c.from-rise.ensures) at c.rounded.ensures) z d
